@@ -1,0 +1,99 @@
+-- The form of a table: as a walk over its steps finds it, and what a well-formed table is.
+use Prim.Native.Nat.{ℕ, suc, _+_, _≤_, _<_}
+use mathlib.Core.Path.{_≡_, ap, _∙_}
+use mathlib.Core.List.{List}
+use mathlib.Core.Logic.{by-cases}
+use native.Mathlib.Nat.{zero-add, add-zero}
+use native.Mathlib.Omega.{arith}
+use native.Mathlib.Decide.{decLe, ℕ-discrete}
+use borrow.Author.Tests.{eq-eqb, ne-eqb, le-leb, lt-leb}
+use lib.ListN.{length}
+use lib.Dec.{eqb}
+use Rattle.words.specs.Choice.{if}
+use Rattle.words.specs.Refusal.{TABLE-LONG, TABLE-CUT}
+use Rattle.boot_table.specs.declared.Step.the-variants.{Section, End, Fault}
+use Rattle.boot_table.specs.declared.Form.{Form}
+use Rattle.boot_table.specs.Table.{Sect, Reading, stepAt, sectionAt, before, readOn, reading}
+use Rattle.boot_table.specs.Form.{limit, total, misformed, formed, readForm, formOf, WellFormed}
+use Rattle.boot_table.proofs.StepLaws.{section-of, length-body, fault-number}
+use Rattle.boot_table.proofs.ReadLaws.{read-section, read-end, read-fault, read-room}
+
+-- ---- the walk
+
+-- the form where k sections with b data bytes were passed and r is what reading on finds
+unfoldable pub tally : ℕ → ℕ → Reading → Form
+tally k b r = if (eqb (r .fault) 0) (formed (k + length (r .sections)) (b + total (r .sections))) (misformed (r .fault) (r .place))
+
+-- a section more was passed
+tally-before : (k b : ℕ) (s : Sect) (r : Reading) → tally k b (before s r) ≡ tally (k + 1) (b + length (s .body)) r
+unfolding tally before total
+tally-before k b s r =
+    let e1 : k + suc (length (r .sections)) ≡ k + 1 + length (r .sections) = omega arith in
+    let e2 : b + (length (s .body) + total (r .sections)) ≡ b + length (s .body) + total (r .sections) = omega arith in
+    rw (e1, e2)
+
+module _ (t : List ℕ) where
+  -- a table over the limit
+  pub form-long : limit < length t → formOf t ≡ misformed TABLE-LONG 0
+  unfolding formOf
+  form-long h = simp (lt-leb _ _ h)
+
+  -- a table without its entry word
+  pub form-cut : length t ≤ limit → length t < 4 → formOf t ≡ misformed TABLE-CUT 0
+  unfolding formOf reading readForm
+  form-cut h k = simp (le-leb _ _ h, lt-leb _ _ k)
+
+  -- the walk begins behind the entry word with nothing passed
+  pub form-start : length t ≤ limit → 4 ≤ length t → formOf t ≡ tally 0 0 (readOn t 4)
+  unfolding formOf reading readForm tally
+  form-start h k = simp (le-leb _ _ h, le-leb _ _ k, zero-add)
+
+  module _ (k b at : ℕ) where
+    -- a section is passed
+    pub form-section : {address size start next : ℕ} → stepAt t at ≡ Section address size start next → tally k b (readOn t at) ≡ tally (k + 1) (b + size) (readOn t next)
+    form-section {address} {size} {start} {next} e =
+        ap (tally k b) (read-section t at e)
+        ∙ tally-before k b (sectionAt t at address size) (readOn t next)
+        ∙ ap (λ (m : ℕ). tally (k + 1) (b + m) (readOn t next)) (length-body t at (section-of t at e))
+
+    -- at the end what was passed is the form
+    pub form-end : stepAt t at ≡ End → tally k b (readOn t at) ≡ formed k b
+    unfolding tally total
+    form-end e = ap (tally k b) (read-end t at e) ∙ simp add-zero
+
+    -- a fault is the form
+    pub form-fault : {number place : ℕ} → stepAt t at ≡ Fault number place → tally k b (readOn t at) ≡ misformed number place
+    unfolding tally
+    form-fault {number} {place} e = ap (tally k b) (read-fault t at e) ∙ simp (ne-eqb _ _ (fault-number t at e))
+
+-- ---- well-formed tables
+
+not-zero : {n : ℕ} → suc n ≡ 0 → ⊥
+not-zero e = omega arith
+
+-- a table of number 0 is well-formed
+pub form-well : (t : List ℕ) → formOf t .number ≡ 0 → WellFormed t
+unfolding formOf readForm
+form-well t z =
+    by-cases (decLe (length t) limit)
+    (λ h. by-cases (ℕ-discrete (reading t .fault) 0)
+    (λ f. record { short = h; whole = f })
+    (λ f. absurd (f (simp (le-leb _ _ h, ne-eqb _ _ f) at z))))
+    (λ h. absurd (not-zero (simp (lt-leb (length t) limit (omega arith)) at z)))
+
+-- the form of a well-formed table counts its sections and their data bytes
+pub well-form : (t : List ℕ) → WellFormed t → formOf t ≡ formed (length (reading t .sections)) (total (reading t .sections))
+unfolding formOf readForm
+well-form t w = simp (le-leb _ _ (w .short), eq-eqb _ _ (w .whole))
+
+-- a well-formed table is read from offset 4 on, without a fault
+pub well-read : (t : List ℕ) → WellFormed t → (reading t ≡ readOn t 4) × (readOn t 4 .fault ≡ 0)
+unfolding reading
+well-read t w =
+    by-cases (decLe 4 (length t))
+    (λ h. (simp (le-leb _ _ h), simp (le-leb _ _ h) at (w .whole)))
+    (λ h. absurd (not-zero (simp (lt-leb 4 (length t) (omega arith)) at (w .whole))))
+
+-- a well-formed table has its entry and its zero word
+pub well-long : (t : List ℕ) → WellFormed t → 8 ≤ length t
+well-long t w = read-room t 4 (well-read t w .1)

@@ -1,0 +1,5 @@
+pub mod StepLaws
+pub mod ReadLaws
+pub mod FormLaws
+pub mod RoundTrip
+pub mod MeaningLaws

@@ -1,0 +1,95 @@
+-- Reading on from an offset: by the step that stands there, however many steps are allowed.
+use Prim.Native.Nat.{ℕ, zero, suc, _+_, _≤_, _<_}
+use mathlib.Core.Path.{_≡_, refl, sym, ap, _∙_}
+use mathlib.Core.List.{List, [], _∷_}
+use mathlib.Core.Logic.{by-cases, ⊎-elim}
+use native.Mathlib.Omega.{arith}
+use native.Mathlib.Decide.{decLe}
+use lib.ListN.{length}
+use types.Run.{OneOf}
+use denote.Enum.Declared.{tagOf}
+use Rattle.boot_table.proofs.Step.{the-type}
+use Rattle.boot_table.specs.declared.Step.{Step}
+use Rattle.boot_table.specs.declared.Step.the-variants.{Section, End, Fault}
+use Rattle.boot_table.specs.Table.{Reading, stop, stepAt, sectionAt, before, onStep, readFrom, readOn}
+use Rattle.boot_table.proofs.StepLaws.{step-cut, section-of, fault-number}
+
+-- ---- how many steps are allowed does not matter where they are enough
+
+-- two ways to read on that agree past this offset find the same here
+same-step : (f g : ℕ → Reading) (t : List ℕ) (at : ℕ) (s : Step) → stepAt t at ≡ s
+    → ((next : ℕ) → at < next → f next ≡ g next) → onStep f t at s ≡ onStep g t at s
+unfolding onStep
+same-step f g t at (Section address size start next) e same =
+    ap (before (sectionAt t at address size)) (same next (omega (arith, section-of t at e .next-is)))
+same-step f g t at End e same = refl
+same-step f g t at (Fault number place) e same = refl
+
+enough : (n m : ℕ) (t : List ℕ) (at : ℕ) → length t ≤ at + n → length t ≤ at + m → readFrom n t at ≡ readFrom m t at
+unfolding readFrom onStep
+enough zero zero t at p q = refl
+enough zero (suc m) t at p q = sym (ap (onStep (readFrom m t) t at) (step-cut t at (omega arith)))
+enough (suc n) zero t at p q = ap (onStep (readFrom n t) t at) (step-cut t at (omega arith))
+enough (suc n) (suc m) t at p q = same-step (readFrom n t) (readFrom m t) t at (stepAt t at) refl (λ next l. enough n m t next (omega arith) (omega arith))
+
+-- what is read is what the step finds, and then what is read from the next offset
+read-step : (t : List ℕ) (at : ℕ) → readOn t at ≡ onStep (readOn t) t at (stepAt t at)
+unfolding readOn readFrom
+read-step t at = enough (length t) (suc (length t)) t at (omega arith) (omega arith)
+
+-- ---- reading on, by what the step finds
+
+module _ (t : List ℕ) (at : ℕ) where
+  -- a section comes before what its next offset reads
+  pub read-section : {address size start next : ℕ} → stepAt t at ≡ Section address size start next → readOn t at ≡ before (sectionAt t at address size) (readOn t next)
+  unfolding onStep
+  read-section e = read-step t at ∙ ap (onStep (readOn t) t at) e
+
+  -- the end ends it without a fault
+  pub read-end : stepAt t at ≡ End → readOn t at ≡ stop 0 0
+  unfolding onStep
+  read-end e = read-step t at ∙ ap (onStep (readOn t) t at) e
+
+  -- a fault ends it
+  pub read-fault : {number place : ℕ} → stepAt t at ≡ Fault number place → readOn t at ≡ stop number place
+  unfolding onStep
+  read-fault e = read-step t at ∙ ap (onStep (readOn t) t at) e
+
+  -- ---- a table that reads without a fault from offset at
+
+  -- the step finds none
+  pub read-no-fault : {number place : ℕ} → stepAt t at ≡ Fault number place → readOn t at .fault ≡ 0 → ⊥
+  read-no-fault e f = fault-number t at e (sym (ap (λ (r : Reading). r .fault) (read-fault e)) ∙ f)
+
+  -- a step that is no section (tag 0) is then the end
+  pub read-else : (s : Step) → s ≡ stepAt t at → OneOf (1 ∷ 2 ∷ []) (tagOf the-type s) → readOn t at .fault ≡ 0 → stepAt t at ≡ End
+  read-else (Section address size start next) e left f = absurd (⊎-elim (λ q. omega arith) (λ q. omega arith) left)
+  read-else End e left f = sym e
+  read-else (Fault number place) e left f = absurd (read-no-fault (sym e) f)
+
+  -- the zero word has room
+  pub read-room : readOn t at .fault ≡ 0 → at + 4 ≤ length t
+  read-room f = by-cases (decLe (at + 4) (length t)) (λ h. h) (λ n. absurd (read-no-fault (step-cut t at (omega arith)) f))
+
+  -- nor is there a fault at a section's next offset
+  pub read-next : {address size start next : ℕ} → stepAt t at ≡ Section address size start next → readOn t at .fault ≡ 0 → readOn t next .fault ≡ 0
+  unfolding before
+  read-next e f = sym (ap (λ (r : Reading). r .fault) (read-section e)) ∙ f
+
+-- what holds at the end, and at each section where it holds at the next offset, holds where reading finds no fault
+module _ (t : List ℕ) (P : ℕ → Type 0)
+    (end : (at : ℕ) → stepAt t at ≡ End → P at)
+    (section : (at address size start next : ℕ) → stepAt t at ≡ Section address size start next → readOn t next .fault ≡ 0 → P next → P at) where
+  whole-on : (at : ℕ) → readOn t at .fault ≡ 0 → (s : Step) → stepAt t at ≡ s → ((next : ℕ) → at < next → readOn t next .fault ≡ 0 → P next) → P at
+  whole-on at f (Section address size start next) e on =
+      let g = read-next t at e f in
+      section at address size start next e g (on next (omega (arith, section-of t at e .next-is)) g)
+  whole-on at f End e on = end at e
+  whole-on at f (Fault number place) e on = absurd (read-no-fault t at e f)
+
+  whole-in : (n at : ℕ) → length t ≤ at + n → readOn t at .fault ≡ 0 → P at
+  whole-in zero at h f = absurd (omega (arith, read-room t at f))
+  whole-in (suc n) at h f = whole-on at f (stepAt t at) refl (λ next l g. whole-in n next (omega arith) g)
+
+  pub whole-ind : (at : ℕ) → readOn t at .fault ≡ 0 → P at
+  whole-ind at f = whole-in (length t) at (omega arith) f

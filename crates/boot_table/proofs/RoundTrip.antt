@@ -1,0 +1,209 @@
+-- The round trips between a table and its sections.
+use Prim.Native.Nat.{ℕ, zero, suc, _+_, _<_, _^_}
+use mathlib.Core.Path.{_≡_, refl, sym, ap, _∙_}
+use mathlib.Core.List.{List, [], _∷_, _++_, append-assoc, append-nil}
+use mathlib.Core.Bool.{true}
+use native.Mathlib.Omega.{arith}
+use borrow.Author.Tests.{le-leb, ne-eqb}
+use lib.ListN.{length, take, drop, replicate, length-append, length-drop, length-replicate, take-append-drop}
+use lib.Seq.{take-all, take-at, drop-at, drop-drop}
+use Rattle.words.specs.Word.{Bytes, wordAt, wordBytes, padCount}
+use Rattle.words.proofs.ChoiceLaws.{both-ways}
+use Rattle.words.proofs.WordLaws.{word-seam, word-bytes, length-word, bytes-word, word-lt}
+use Rattle.boot_table.specs.Table.{Sect, chunk, chunks, table, allZero, padsAt, sectionAt, before, readOn, reading}
+use Rattle.boot_table.specs.Form.{WellFormed}
+use Rattle.boot_table.specs.Valid.{Valid, All, none, also}
+use Rattle.boot_table.proofs.StepLaws.{IsSection, section-of, section-step, end-of, end-step, length-body, length-pads}
+use Rattle.boot_table.proofs.ReadLaws.{read-section, read-end, whole-ind}
+use Rattle.boot_table.proofs.FormLaws.{well-read, well-long}
+
+-- ---- lengths, sections one after another, and zero bytes
+
+-- the bytes of sections stand one after another
+pub chunks-append : (xs ys : List Sect) → chunks (xs ++ ys) ≡ chunks xs ++ chunks ys
+unfolding chunks
+chunks-append [] ys = refl
+chunks-append (x ∷ xs) ys = rw (chunks-append xs ys) (simp append-assoc)
+
+-- a table has its entry word and its zero word besides its sections
+pub length-table : (e : ℕ) (ss : List Sect) → length (table e ss) ≡ 8 + length (chunks ss)
+unfolding table
+length-table e ss = simp (length-append, length-word) (omega arith)
+
+-- zero bytes are all zero, and bytes that are all zero are so many zeros
+zeros-all : (n : ℕ) → allZero (replicate n 0) ≡ true
+unfolding allZero
+zeros-all zero = refl
+zeros-all (suc n) = zeros-all n
+
+all-zeros : (xs : List ℕ) → allZero xs ≡ true → xs ≡ replicate (length xs) 0
+unfolding allZero
+all-zeros [] h = refl
+all-zeros (zero ∷ xs) h = ap (λ (l : List ℕ). 0 ∷ l) (all-zeros xs h)
+all-zeros (suc x ∷ xs) h = absurd (both-ways _ h (simp (ne-eqb (suc x) 0 (λ z. omega arith))))
+
+-- ---- written, then read
+
+-- a valid section that stands between p and q
+module _ (p q : List ℕ) (s : Sect) (v : Valid s) where
+  -- its lengths
+  pads-long : length (s .pads) ≡ padCount (length (s .body))
+  pads-long = ap length (v .zeros) ∙ length-replicate (padCount (length (s .body))) 0
+
+  length-chunk : length (chunk s) ≡ 8 + length (s .body) + padCount (length (s .body))
+  unfolding chunk
+  length-chunk = simp (length-append, length-word) (omega (arith, pads-long))
+
+  -- the bytes cut before its address, before its data, and before its pads
+  cut-address : p ++ (chunk s ++ q) ≡ (p ++ wordBytes (length (s .body))) ++ (wordBytes (s .address) ++ (s .body ++ s .pads ++ q))
+  unfolding chunk
+  cut-address = simp append-assoc
+
+  cut-body : p ++ (chunk s ++ q) ≡ (p ++ wordBytes (length (s .body)) ++ wordBytes (s .address)) ++ (s .body ++ (s .pads ++ q))
+  unfolding chunk
+  cut-body = simp append-assoc
+
+  cut-pads : p ++ (chunk s ++ q) ≡ (p ++ wordBytes (length (s .body)) ++ wordBytes (s .address) ++ s .body) ++ (s .pads ++ q)
+  unfolding chunk
+  cut-pads = simp append-assoc
+
+  -- its words, data and pads as they are read
+  size-at : wordAt (p ++ (chunk s ++ q)) (length p) ≡ length (s .body)
+  unfolding chunk
+  size-at = word-seam p (chunk s ++ q) ∙ simp append-assoc (word-bytes (length (s .body)) _ (v .small))
+
+  address-at : wordAt (p ++ (chunk s ++ q)) (length p + 4) ≡ s .address
+  address-at =
+      let l : length (p ++ wordBytes (length (s .body))) ≡ length p + 4 = simp (length-append, length-word) in
+      let e = word-seam (p ++ wordBytes (length (s .body))) (wordBytes (s .address) ++ (s .body ++ s .pads ++ q)) in
+      let f = word-bytes (s .address) (s .body ++ s .pads ++ q) (omega (arith, v .some, v .top)) in
+      cc (cut-address)
+
+  body-at : take (length (s .body)) (drop (length p + 8) (p ++ (chunk s ++ q))) ≡ s .body
+  body-at =
+      rw (
+        cut-body,
+        drop-at (p ++ wordBytes (length (s .body)) ++ wordBytes (s .address)) _ (length p + 8) (simp (length-append, length-word) (omega arith)),
+        take-at (s .body) _ (length (s .body)) refl,
+      ) refl
+
+  pads-at : padsAt (p ++ (chunk s ++ q)) (length p) (length (s .body)) ≡ s .pads
+  unfolding padsAt
+  pads-at =
+      rw (
+        cut-pads,
+        drop-at (p ++ wordBytes (length (s .body)) ++ wordBytes (s .address) ++ s .body) _ (length p + 8 + length (s .body)) (simp (length-append, length-word) (omega arith)),
+        take-at (s .pads) q (padCount (length (s .body))) pads-long,
+      ) refl
+
+  -- so the section stands there, and is read
+  chunk-at : IsSection (p ++ (chunk s ++ q)) (length p) (s .address) (length (s .body)) (length p + 8) (length p + length (chunk s))
+  chunk-at = record {
+    start-is = refl;
+    next-is = omega (arith, length-chunk);
+    within = simp length-append (omega arith);
+    some = v .some;
+    head = simp length-append (omega (arith, length-chunk));
+    size-is = sym size-at;
+    address-is = sym address-at;
+    top = v .top;
+    zeros = ap allZero (pads-at ∙ v .zeros) ∙ zeros-all (padCount (length (s .body)));
+  }
+
+  section-at : sectionAt (p ++ (chunk s ++ q)) (length p) (s .address) (length (s .body)) ≡ s
+  unfolding sectionAt
+  section-at = λ i. record { address = s .address; body = body-at i; pads = pads-at i }
+
+-- sections that stand behind p up to the zero word are read; t is a variable, so that nothing rewrites it
+read-chunks : (t p : List ℕ) (at : ℕ) {ss : List Sect} → All Valid ss → t ≡ p ++ (chunks ss ++ wordBytes 0) → at ≡ length p
+    → readOn t at ≡ record { sections = ss; fault = 0; place = 0 }
+unfolding chunks before
+read-chunks t p at none e l =
+    let z : wordAt t at ≡ 0 = rw (e, l) (word-seam p (wordBytes 0) ∙ rw append-nil at (word-bytes 0 [] (omega arith))) in
+    read-end t at (end-step t at (rw e (simp (length-append, length-word) (omega arith))) z)
+read-chunks t p at (also {s = s} {ss = ss} v vs) e l =
+    let q = chunks ss ++ wordBytes 0 in
+    let f : t ≡ p ++ (chunk s ++ q) = e ∙ simp append-assoc in
+    let i : IsSection t at (s .address) (length (s .body)) (at + 8) (at + length (chunk s)) = rw (f, l) (chunk-at p q s v) in
+    let b : sectionAt t at (s .address) (length (s .body)) ≡ s = rw (f, l) (section-at p q s v) in
+    let r : readOn t (at + length (chunk s)) ≡ record { sections = ss; fault = 0; place = 0 } =
+    read-chunks t (p ++ chunk s) (at + length (chunk s)) vs (f ∙ simp append-assoc) (simp length-append (omega arith)) in
+    read-section t at (section-step t at i) ∙ rw (b, r) refl
+
+-- Valid sections that are written as a table are read back from it, without a fault.
+pub read-table : (entry : ℕ) (ss : List Sect) → All Valid ss → reading (table entry ss) ≡ record { sections = ss; fault = 0; place = 0 }
+unfolding table reading
+read-table entry ss v =
+    rw (le-leb 4 (length (table entry ss)) (simp (length-append, length-word) (omega arith)))
+    (read-chunks (table entry ss) (wordBytes entry) 4 v (simp append-assoc) (sym (length-word entry)))
+
+-- The entry is read back too.
+pub entry-table : (entry : ℕ) (ss : List Sect) → entry < 2 ^ 32 → wordAt (table entry ss) 0 ≡ entry
+unfolding table
+entry-table entry ss h = simp append-assoc (word-bytes entry (chunks ss ++ wordBytes 0) h)
+
+-- ---- read, then written
+
+-- the bytes from an offset on, cut at another
+peel : (t : List ℕ) (i n j : ℕ) → i + n ≡ j → drop i t ≡ take n (drop i t) ++ drop j t
+peel t i n j e = sym (take-append-drop n (drop i t)) ∙ rw (drop-drop, e)
+
+module _ (t : List ℕ) (b : Bytes t) where
+  -- the bytes from a section on are the section's, and then those from the next offset on
+  section-bytes : (at : ℕ) {address size start next : ℕ} → IsSection t at address size start next → drop at t ≡ chunk (sectionAt t at address size) ++ drop next t
+  unfolding chunk sectionAt padsAt
+  section-bytes at {address} {size} {start} {next} i =
+      let body : List ℕ = take size (drop (at + 8) t) in
+      let pads : List ℕ = take (padCount size) (drop (at + 8 + size) t) in
+      let e1 : drop at t ≡ take 4 (drop at t) ++ drop (at + 4) t = peel t at 4 (at + 4) refl in
+      let e2 : drop (at + 4) t ≡ take 4 (drop (at + 4) t) ++ drop (at + 8) t = peel t (at + 4) 4 (at + 8) (omega arith) in
+      let e3 : drop (at + 8) t ≡ body ++ drop (at + 8 + size) t = peel t (at + 8) size (at + 8 + size) refl in
+      let e4 : drop (at + 8 + size) t ≡ pads ++ drop next t = peel t (at + 8 + size) (padCount size) next (omega (arith, i .next-is)) in
+      let w1 : wordBytes size ≡ take 4 (drop at t) = rw (i .size-is) (bytes-word t at b (omega (arith, i .head))) in
+      let w2 : wordBytes address ≡ take 4 (drop (at + 4) t) = rw (i .address-is) (bytes-word t (at + 4) b (omega (arith, i .head))) in
+      let l : length body ≡ size = length-body t at i in
+      simp append-assoc (cc)
+
+  -- the bytes from an offset on are those of the sections that are read, and the zero word
+  read-bytes : (at : ℕ) → readOn t at .fault ≡ 0 → drop at t ≡ chunks (readOn t at .sections) ++ wordBytes 0
+  unfolding chunks before
+  read-bytes = whole-ind t (λ (at : ℕ). drop at t ≡ chunks (readOn t at .sections) ++ wordBytes 0)
+      (λ at e.
+      let z = end-of t at e in
+      let w : wordBytes (wordAt t at) ≡ take 4 (drop at t) = bytes-word t at b (omega arith) in
+      let a : take 4 (drop at t) ≡ drop at t = take-all 4 (drop at t) (simp length-drop (omega arith)) in
+      rw (read-end t at e) (sym (ap wordBytes (sym (z .1)) ∙ w ∙ a)))
+      (λ at address size start next e g on.
+      rw (read-section t at e) (section-bytes at (section-of t at e) ∙ rw on (simp append-assoc)))
+
+  -- a section that is read is valid
+  section-valid : (at : ℕ) {address size start next : ℕ} → IsSection t at address size start next → Valid (sectionAt t at address size)
+  unfolding sectionAt
+  section-valid at {address} {size} i =
+      let l = length-body t at i in
+      let n = length-pads t at i in
+      record {
+        some = rw l (i .some);
+        small = rw (l, i .size-is) (word-lt t at b);
+        top = rw l (i .top);
+        zeros = rw l (all-zeros (padsAt t at size) (i .zeros) ∙ ap (λ (k : ℕ). replicate k 0) n);
+      }
+
+  read-valid : (at : ℕ) → readOn t at .fault ≡ 0 → All Valid (readOn t at .sections)
+  unfolding before
+  read-valid = whole-ind t (λ (at : ℕ). All Valid (readOn t at .sections))
+      (λ at e. rw (read-end t at e) none)
+      (λ at address size start next e g on. rw (read-section t at e) (also (section-valid at (section-of t at e)) on))
+
+-- A well-formed table is the table of its entry and of the sections that are read from it.
+pub table-read : (t : List ℕ) → Bytes t → WellFormed t → table (wordAt t 0) (reading t .sections) ≡ t
+unfolding table
+table-read t b w =
+    let r = well-read t w in
+    let e : drop 4 t ≡ chunks (readOn t 4 .sections) ++ wordBytes 0 = read-bytes t b 4 (r .1) in
+    let h : wordBytes (wordAt t 0) ≡ take 4 t = bytes-word t 0 b (omega (arith, well-long t w)) in
+    rw (r .0) (simp append-assoc (rw (← e, h) (take-append-drop 4 t)))
+
+-- Those sections are valid.
+pub valid-read : (t : List ℕ) → Bytes t → WellFormed t → All Valid (reading t .sections)
+valid-read t b w = let r = well-read t w in rw (r .0) (read-valid t b 4 (r .1))

@@ -1,0 +1,203 @@
+-- The walk step: what each outcome says of the table, and when it comes out.
+use Prim.Native.Nat.{ℕ, _+_, _-_, _^_, _≤_, _<_}
+use mathlib.Core.Path.{_≡_, refl, sym, subst}
+use mathlib.Core.List.{List, [], _∷_}
+use mathlib.Core.Bool.{Bool, true, false}
+use mathlib.Core.Logic.{⊎-elim}
+use native.Mathlib.Numerals.{add-one}
+use native.Mathlib.Omega.{arith}
+use borrow.Author.Tests.{eq-eqb, ne-eqb, le-leb, lt-leb, leb-true, eqb-true, eqb-false}
+use lib.ListN.{length, getD, take, drop, length-append, length-drop}
+use lib.Seq.{drop-cons, length-take-le}
+use lib.Dec.{leb, eqb}
+use types.Run.{OneOf}
+use denote.Enum.Declared.{tagOf}
+use Rattle.words.specs.Word.{wordAt, padCount}
+use Rattle.words.specs.Refusal.{TABLE-CUT, PAD-NOT-ZERO, BYTES-AFTER, PAST-TOP}
+use Rattle.words.proofs.ChoiceLaws.{if-split}
+use Rattle.words.proofs.WordLaws.{length-word}
+use Rattle.boot_table.proofs.Step.{the-type}
+use Rattle.boot_table.specs.declared.Step.{Step}
+use Rattle.boot_table.specs.declared.Step.the-variants.{Section, End, Fault}
+use Rattle.boot_table.specs.Table.{chunk, allZero, padsAt, nextOf, stepAt, sectionAt}
+
+-- ---- zero bytes
+
+-- a zero in front changes nothing
+pub zero-on : (l : List ℕ) (i : ℕ) → i < length l → getD l i 0 ≡ 0 → allZero (drop i l) ≡ allZero (drop (i + 1) l)
+unfolding allZero
+zero-on l i h e = rw (add-one, drop-cons l i 0) (simp (eq-eqb _ _ e))
+
+-- any other byte makes the answer false
+pub zero-off : (l : List ℕ) (i : ℕ) → i < length l → (getD l i 0 ≡ 0 → ⊥) → allZero (drop i l) ≡ false
+unfolding allZero
+zero-off l i h e = rw (drop-cons l i 0) (simp (ne-eqb _ _ e))
+
+-- the answer on the part that the code cuts out is the answer on the pads
+pub pads-found : (t : List ℕ) (at size pads : ℕ) (b : Bool) → pads ≡ padCount size
+    → b ≡ allZero (take (at + 8 + (size + pads) - (at + 8 + size)) (drop (at + 8 + size) t)) → allZero (padsAt t at size) ≡ b
+unfolding padsAt
+pads-found t at size pads b e f =
+    let k : at + 8 + (size + pads) - (at + 8 + size) ≡ pads = omega arith in
+    rw (← e) (sym (rw k at f))
+
+-- ---- when a step comes out as a fault
+
+-- no room for the size word
+pub step-cut : (t : List ℕ) (at : ℕ) → length t < at + 4 → stepAt t at ≡ Fault TABLE-CUT at
+unfolding stepAt
+step-cut t at h = simp (lt-leb _ _ h)
+
+module _ (t : List ℕ) (at size : ℕ) (head : at + 4 ≤ length t) (es : size ≡ wordAt t at) where
+  -- bytes after the zero word
+  pub step-after : size ≡ 0 → at + 4 < length t → stepAt t at ≡ Fault BYTES-AFTER (at + 4)
+  unfolding stepAt
+  step-after z h = rw (← es) (simp (le-leb _ _ head, eq-eqb _ _ z, lt-leb _ _ h))
+
+  -- no room for the section
+  pub step-short : (size ≡ 0 → ⊥) → length t < nextOf at size → stepAt t at ≡ Fault TABLE-CUT at
+  unfolding stepAt
+  step-short z h = rw (← es) (simp (le-leb _ _ head, ne-eqb _ _ z, lt-leb _ _ h))
+
+  module _ (address : ℕ) (z : size ≡ 0 → ⊥) (within : nextOf at size ≤ length t) (ea : address ≡ wordAt t (at + 4)) where
+    -- addresses past the top
+    pub step-high : 2 ^ 32 < address + size → stepAt t at ≡ Fault PAST-TOP at
+    unfolding stepAt
+    step-high h = rw (← es, ← ea) (simp (le-leb _ _ head, ne-eqb _ _ z, le-leb _ _ within, lt-leb _ _ h))
+
+    -- a pad that is not zero
+    pub step-pad : address + size ≤ 2 ^ 32 → allZero (padsAt t at size) ≡ false → stepAt t at ≡ Fault PAD-NOT-ZERO at
+    unfolding stepAt
+    step-pad h p = rw (← es, ← ea) (simp (le-leb _ _ head, ne-eqb _ _ z, le-leb _ _ within, le-leb _ _ h, p))
+
+-- ---- sections and the end, as facts
+
+-- the facts of a section at an offset
+pub record IsSection (t : List ℕ) (at address size start next : ℕ) : Type 0 where
+  pub start-is : start ≡ at + 8
+  pub next-is : next ≡ at + 8 + size + padCount size
+  pub within : next ≤ length t
+  pub some : 1 ≤ size
+  pub head : at + 8 ≤ length t
+  pub size-is : size ≡ wordAt t at
+  pub address-is : address ≡ wordAt t (at + 4)
+  pub top : address + size ≤ 2 ^ 32
+  pub zeros : allZero (padsAt t at size) ≡ true
+
+-- where the facts of a section hold the step finds it
+pub section-step : (t : List ℕ) (at : ℕ) {address size start next : ℕ} → IsSection t at address size start next → stepAt t at ≡ Section address size start next
+unfolding stepAt nextOf
+section-step t at {address} {size} i =
+    rw (← (i .size-is), ← (i .address-is), i .start-is, i .next-is)
+    (simp (
+      le-leb (at + 4) (length t) (omega (arith, i .head)),
+      ne-eqb size 0 (λ z. omega (arith, i .some)),
+      le-leb (at + 8 + size + padCount size) (length t) (omega (arith, i .within, i .next-is)),
+      le-leb (address + size) (2 ^ 32) (i .top),
+      i .zeros,
+    ))
+
+-- a zero word at the end of the table is its end
+pub end-step : (t : List ℕ) (at : ℕ) → length t ≡ at + 4 → wordAt t at ≡ 0 → stepAt t at ≡ End
+unfolding stepAt
+end-step t at l z = simp (le-leb (at + 4) (length t) (omega arith), eq-eqb (wordAt t at) 0 z, le-leb (length t) (at + 4) (omega arith))
+
+-- ---- what an outcome says of the table
+
+-- the facts of each outcome
+Says : List ℕ → ℕ → Step → Type 0
+Says t at (Section address size start next) = IsSection t at address size start next
+Says t at End = (length t ≡ at + 4) × (wordAt t at ≡ 0)
+Says t at (Fault number place) = number ≡ 0 → ⊥
+
+section-says : (t : List ℕ) (at address size start next : ℕ) (s : Step) → IsSection t at address size start next → Section address size start next ≡ s → Says t at s
+unfolding Says
+section-says t at address size start next s i e = subst (Says t at) e i
+
+end-says : (t : List ℕ) (at : ℕ) (s : Step) → length t ≡ at + 4 → wordAt t at ≡ 0 → End ≡ s → Says t at s
+unfolding Says
+end-says t at s l z e = subst (Says t at) e (l, z)
+
+fault-says : (t : List ℕ) (at number place : ℕ) (s : Step) → 1 ≤ number → Fault number place ≡ s → Says t at s
+unfolding Says
+fault-says t at number place s h e = subst (Says t at) e (λ z. omega arith)
+
+-- a step is followed down its tests
+step-says : (t : List ℕ) (at : ℕ) (s : Step) → stepAt t at ≡ s → Says t at s
+unfolding stepAt nextOf
+step-says t at s e =
+    if-split (leb (at + 4) (length t)) _ _ s e
+    (λ h1 e1. if-split (eqb (wordAt t at) 0) _ _ s e1
+    (λ h2 e2. if-split (leb (length t) (at + 4)) _ _ s e2
+    (λ h3. end-says t at s (omega (arith, leb-true (at + 4) (length t) h1, leb-true (length t) (at + 4) h3)) (eqb-true _ _ h2))
+    (λ h3. fault-says t at _ _ s (omega arith)))
+    (λ h2 e2. if-split (leb (nextOf at (wordAt t at)) (length t)) _ _ s e2
+    (λ h3 e3. if-split (leb (wordAt t (at + 4) + wordAt t at) (2 ^ 32)) _ _ s e3
+    (λ h4 e4. if-split (allZero (padsAt t at (wordAt t at))) _ _ s e4
+    (λ h5. section-says t at _ _ _ _ s (record {
+      start-is = refl;
+      next-is = refl;
+      within = leb-true _ _ h3;
+      some = omega (arith, eqb-false (wordAt t at) 0 h2);
+      head = omega (arith, leb-true (at + 8 + wordAt t at + padCount (wordAt t at)) (length t) h3);
+      size-is = refl;
+      address-is = refl;
+      top = leb-true _ _ h4;
+      zeros = h5;
+    }))
+    (λ h5. fault-says t at _ _ s (omega arith)))
+    (λ h4. fault-says t at _ _ s (omega arith)))
+    (λ h3. fault-says t at _ _ s (omega arith))))
+    (λ h1. fault-says t at _ _ s (omega arith))
+
+-- a section that the step finds has its facts
+pub section-of : (t : List ℕ) (at : ℕ) {address size start next : ℕ} → stepAt t at ≡ Section address size start next → IsSection t at address size start next
+unfolding Says
+section-of t at {address} {size} {start} {next} e = step-says t at (Section address size start next) e
+
+-- the end is the end of the table, at a zero word
+pub end-of : (t : List ℕ) (at : ℕ) → stepAt t at ≡ End → (length t ≡ at + 4) × (wordAt t at ≡ 0)
+unfolding Says
+end-of t at e = step-says t at End e
+
+-- a fault has a number that is not 0
+pub fault-number : (t : List ℕ) (at : ℕ) {number place : ℕ} → stepAt t at ≡ Fault number place → number ≡ 0 → ⊥
+unfolding Says
+fault-number t at {number} {place} e = step-says t at (Fault number place) e
+
+-- ---- the last else of a let-else knows the tags that are left: 0 a section, 1 the end, 2 a fault
+
+-- neither a section nor a fault
+pub end-left : (s : Step) → OneOf (1 ∷ 2 ∷ []) (tagOf the-type s) → OneOf (0 ∷ 1 ∷ []) (tagOf the-type s) → s ≡ End
+end-left (Section address size start next) p q = absurd (⊎-elim (λ e. omega arith) (λ e. omega arith) p)
+end-left End p q = refl
+end-left (Fault number place) p q = absurd (⊎-elim (λ e. omega arith) (λ e. omega arith) q)
+
+-- neither a section nor the end
+pub fault-left : (s : Step) → OneOf (1 ∷ 2 ∷ []) (tagOf the-type s) → OneOf (0 ∷ 2 ∷ []) (tagOf the-type s) → (number : ℕ) × (place : ℕ) × (s ≡ Fault number place)
+fault-left (Section address size start next) p q = absurd (⊎-elim (λ e. omega arith) (λ e. omega arith) p)
+fault-left End p q = absurd (⊎-elim (λ e. omega arith) (λ e. omega arith) q)
+fault-left (Fault number place) p q = (number, place, refl)
+
+-- ---- the section itself
+
+module _ (t : List ℕ) (at : ℕ) {address size start next : ℕ} (i : IsSection t at address size start next) where
+  -- its data stands at start
+  pub body-is : sectionAt t at address size .body ≡ take size (drop start t)
+  unfolding sectionAt
+  body-is = rw (i .start-is)
+
+  -- it has as many data bytes as its size says
+  pub length-body : length (sectionAt t at address size .body) ≡ size
+  unfolding sectionAt
+  length-body = length-take-le size (drop (at + 8) t) (simp length-drop (omega (arith, i .next-is, i .within)))
+
+  -- and as many pads as follow from its size
+  pub length-pads : length (padsAt t at size) ≡ padCount size
+  unfolding padsAt
+  length-pads = length-take-le (padCount size) (drop (at + 8 + size) t) (simp length-drop (omega (arith, i .next-is, i .within)))
+
+  -- its bytes end where the next section stands
+  pub chunk-next : at + length (chunk (sectionAt t at address size)) ≡ next
+  unfolding chunk sectionAt
+  chunk-next = simp (length-append, length-word) (omega (arith, length-body, length-pads, i .next-is))

@@ -1,0 +1,97 @@
+-- The boot table: its sections, its bytes, and what a walk over it finds. t is a table.
+use Prim.Native.Nat.{ℕ, zero, suc, _+_, _^_}
+use mathlib.Core.List.{List, [], _∷_, _++_}
+use mathlib.Core.Bool.{Bool, true, false}
+use lib.ListN.{length, take, drop}
+use lib.Dec.{leb, eqb}
+use Rattle.words.specs.Choice.{if}
+use Rattle.words.specs.Word.{wordAt, wordBytes, padCount}
+use Rattle.words.specs.Refusal.{TABLE-CUT, PAD-NOT-ZERO, BYTES-AFTER, PAST-TOP}
+use Rattle.boot_table.specs.declared.Step.{Step}
+use Rattle.boot_table.specs.declared.Step.the-variants.{Section, End, Fault}
+
+-- ---- sections as data
+
+-- a section: its address, its data bytes, and the pad bytes after them
+pub record Sect : Type 0 where
+  pub address : ℕ
+  pub body : List ℕ
+  pub pads : List ℕ
+
+-- the bytes of a section: size word, address word, data, pads
+unfoldable pub chunk : Sect → List ℕ
+chunk s = wordBytes (length (s .body)) ++ wordBytes (s .address) ++ s .body ++ s .pads
+
+unfoldable pub chunks : List Sect → List ℕ
+chunks [] = []
+chunks (s ∷ ss) = chunk s ++ chunks ss
+
+-- the table of an entry and sections: entry word, sections, zero word
+unfoldable pub table : ℕ → List Sect → List ℕ
+table entry ss = wordBytes entry ++ chunks ss ++ wordBytes 0
+
+-- ---- the walk step
+
+unfoldable pub allZero : List ℕ → Bool
+allZero [] = true
+allZero (x ∷ xs) = if (eqb x 0) (allZero xs) false
+
+-- the pad bytes of the section of size data bytes at offset at
+unfoldable pub padsAt : List ℕ → ℕ → ℕ → List ℕ
+padsAt t at size = take (padCount size) (drop (at + 8 + size) t)
+
+-- the offset after the section of size data bytes at offset at
+unfoldable pub nextOf : ℕ → ℕ → ℕ
+nextOf at size = at + 8 + size + padCount size
+
+-- the walk step: what stands at offset at
+unfoldable pub stepAt : List ℕ → ℕ → Step
+stepAt t at =
+    if (leb (at + 4) (length t))
+    (if (eqb (wordAt t at) 0)
+    (if (leb (length t) (at + 4)) End (Fault BYTES-AFTER (at + 4)))
+    (if (leb (nextOf at (wordAt t at)) (length t))
+    (if (leb (wordAt t (at + 4) + wordAt t at) (2 ^ 32))
+    (if (allZero (padsAt t at (wordAt t at)))
+    (Section (wordAt t (at + 4)) (wordAt t at) (at + 8) (nextOf at (wordAt t at)))
+    (Fault PAD-NOT-ZERO at))
+    (Fault PAST-TOP at))
+    (Fault TABLE-CUT at)))
+    (Fault TABLE-CUT at)
+
+-- ---- reading a table
+
+-- the sections before the end or the first fault, and that fault: number 0 where there is none
+pub record Reading : Type 0 where
+  pub sections : List Sect
+  pub fault : ℕ
+  pub place : ℕ
+
+abbrev pub stop : ℕ → ℕ → Reading
+stop number place = record { sections = []; fault = number; place = place }
+
+-- the section at offset at
+unfoldable pub sectionAt : List ℕ → ℕ → ℕ → ℕ → Sect
+sectionAt t at address size = record { address = address; body = take size (drop (at + 8) t); pads = padsAt t at size }
+
+unfoldable pub before : Sect → Reading → Reading
+before s r = record { sections = s ∷ r .sections; fault = r .fault; place = r .place }
+
+-- what the step at offset at finds, and then what `after` finds at the next offset
+unfoldable pub onStep : (ℕ → Reading) → List ℕ → ℕ → Step → Reading
+onStep after t at (Section address size start next) = before (sectionAt t at address size) (after next)
+onStep after t at End = stop 0 0
+onStep after t at (Fault number place) = stop number place
+
+-- reading on from offset at, n steps at most
+unfoldable pub readFrom : ℕ → List ℕ → ℕ → Reading
+readFrom zero t at = stop TABLE-CUT at
+readFrom (suc n) t at = onStep (readFrom n t) t at (stepAt t at)
+
+-- reading on from offset at: a table has fewer sections than bytes
+unfoldable pub readOn : List ℕ → ℕ → Reading
+readOn t at = readFrom (length t) t at
+
+-- reading a table: the entry word, and then the walk
+unfoldable pub reading : List ℕ → Reading
+reading t = if (leb 4 (length t)) (readOn t 4) (stop TABLE-CUT 0)

@@ -1,0 +1,19 @@
+-- Which sections a table can hold.
+use Prim.Native.Nat.{_+_, _^_, _≤_, _<_}
+use mathlib.Core.Path.{_≡_}
+use mathlib.Core.List.{List, [], _∷_}
+use lib.ListN.{length, replicate}
+use Rattle.words.specs.Word.{padCount}
+use Rattle.boot_table.specs.Table.{Sect}
+
+-- a valid section: data, a size and an address that fit a word, no address past the top, and zero pads up to a multiple of four
+pub record Valid (s : Sect) : Type 0 where
+  pub some : 1 ≤ length (s .body)
+  pub small : length (s .body) < 2 ^ 32
+  pub top : s .address + length (s .body) ≤ 2 ^ 32
+  pub zeros : s .pads ≡ replicate (padCount (length (s .body))) 0
+
+-- every section of a list has the property P
+pub data All (P : Sect → Type 0) : List Sect → Type 0 where
+  none : All P []
+  also : {s : Sect} {ss : List Sect} → P s → All P ss → All P (s ∷ ss)

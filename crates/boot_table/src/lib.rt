@@ -1,0 +1,149 @@
+// The boot table: one walk step, and the form of a whole table.
+ghost use mathlib.Core.Path.{_≡_};
+ghost use Rattle.boot_table.specs.Table.{allZero, stepAt};
+ghost use Rattle.boot_table.specs.Form.{misformed, formOf};
+use words::TOP;
+use words::pad_count;
+use words::refusal::BYTES_AFTER;
+use words::refusal::PAD_NOT_ZERO;
+use words::refusal::PAST_TOP;
+use words::refusal::TABLE_CUT;
+use words::refusal::TABLE_LONG;
+use words::word_at;
+
+const LIMIT: usize = 16_777_216;
+
+// What stands at an offset: a section, whose data begins at start and after which next stands; the end; or a fault.
+pub enum Step {
+    Section {
+        address: u32,
+        size: usize,
+        start: usize,
+        next: usize,
+    },
+    End,
+    Fault {
+        number: u32,
+        place: usize,
+    },
+}
+
+// The form of a table: number 0 with its sections and data bytes, or its first fault.
+pub struct Form {
+    pub number: u32,
+    pub place: usize,
+    pub sections: usize,
+    pub bytes: usize,
+}
+
+fn all_zero(bytes: &[u8]) -> bool
+    ensures { λ r. ⌜ r ≡ allZero (now (bytes .entry)) ⌝ }
+{
+    let mut i = 0;
+    while i < bytes.len() {
+        if bytes[i] != 0 {
+            return false;
+        }
+        i += 1;
+    }
+    true
+}
+
+fn fault(number: u32, place: usize) -> Step
+    ensures { λ r. ⌜ r ≡ Step.Fault number place ⌝ }
+{
+    Step::Fault {
+        number: number,
+        place: place,
+    }
+}
+
+// The walk step: what stands at an offset of a table.
+pub fn step_at(table: &[u8], at: usize) -> Step
+    ensures { λ r. ⌜ r ≡ stepAt (now (table .entry)) at ⌝ }
+{
+    let cut = fault(TABLE_CUT, at);
+    if table.len() < at {
+        return cut;
+    }
+    let room = table.len() - at;
+    if room < 4 {
+        return cut;
+    }
+    let size = word_at(table, at) as usize;
+    if size == 0 {
+        if room == 4 {
+            return Step::End;
+        }
+        return fault(BYTES_AFTER, at + 4);
+    }
+    let padded = size + pad_count(size);
+    if room < 8 + padded {
+        return cut;
+    }
+    let address = word_at(table, at + 4);
+    if TOP < address as u64 + size as u64 {
+        return fault(PAST_TOP, at);
+    }
+    let start = at + 8;
+    let end = start + size;
+    let next = start + padded;
+    if !all_zero(&table[end..next]) {
+        return fault(PAD_NOT_ZERO, at);
+    }
+    Step::Section {
+        address: address,
+        size: size,
+        start: start,
+        next: next,
+    }
+}
+
+fn misformed(number: u32, place: usize) -> Form
+    ensures { λ r. ⌜ r ≡ misformed number place ⌝ }
+{
+    Form {
+        number: number,
+        place: place,
+        sections: 0,
+        bytes: 0,
+    }
+}
+
+// The form of a table: its limit, and then its first fault in table order.
+pub fn form_of(table: &[u8]) -> Form
+    ensures { λ r. ⌜ r ≡ formOf (now (table .entry)) ⌝ }
+{
+    if LIMIT < table.len() {
+        return misformed(TABLE_LONG, 0);
+    }
+    if table.len() < 4 {
+        return misformed(TABLE_CUT, 0);
+    }
+    let mut at: usize = 4;
+    let mut sections: usize = 0;
+    let mut bytes: usize = 0;
+    loop {
+        let step = step_at(table, at);
+        let Step::Section {
+            address: _,
+            size,
+            start: _,
+            next,
+        } = step
+        else {
+            let Step::Fault { number, place } = step else {
+                return Form {
+                    number: 0,
+                    place: 0,
+                    sections: sections,
+                    bytes: bytes,
+                };
+            };
+            return misformed(number, place);
+        };
+        sections += 1;
+        bytes += size;
+        at = next;
+    }
+}

@@ -1,0 +1,140 @@
+-- The region map: its records, its first fault, the addresses that it opens, and their places in memory. m is a map.
+use Prim.Native.Nat.{ℕ, zero, suc, _+_, _-_, _*_, _/_, _%_, _^_}
+use mathlib.Core.Path.{_≡_}
+use mathlib.Core.List.{List}
+use mathlib.Core.Bool.{Bool, true, false, not, _&&_, _||_}
+use lib.ListN.{length, getD}
+use lib.Dec.{ltb, leb, eqb}
+use Rattle.words.specs.Choice.{if}
+use Rattle.words.specs.Word.{wordAt}
+use Rattle.words.specs.Refusal.{MAP-LENGTH, MAP-RECORD}
+use Rattle.region_map.specs.declared.MapFault.{MapFault}
+use Rattle.region_map.specs.declared.MapFault.the-variants.{Sound, Length, Record}
+use Rattle.region_map.specs.declared.MapAnswer.{MapAnswer}
+use Rattle.region_map.specs.declared.Found.{Found}
+use Rattle.region_map.specs.declared.Found.the-variants.{Nothing, Index}
+use Rattle.region_map.specs.declared.Closed.{Closed}
+use Rattle.region_map.specs.declared.Closed.the-variants.{Nowhere, At}
+
+-- ---- records
+
+-- how many records of 12 bytes a map has
+abbrev pub count : List ℕ → ℕ
+count m = length m / 12
+
+-- bytes 0-1 of record i are the mark 0x52 0x47
+unfoldable pub marked : List ℕ → ℕ → Bool
+marked m i = eqb (getD m (12 * i) 0) 0x52 && eqb (getD m (12 * i + 1) 0) 0x47
+
+-- byte 2, the kind: 1 is permitted
+unfoldable pub permitted : List ℕ → ℕ → Bool
+permitted m i = eqb (getD m (12 * i + 2) 0) 1
+
+-- 2 is reserved
+unfoldable pub reserved : List ℕ → ℕ → Bool
+reserved m i = eqb (getD m (12 * i + 2) 0) 2
+
+-- byte 3 is zero
+unfoldable pub zeroed : List ℕ → ℕ → Bool
+zeroed m i = eqb (getD m (12 * i + 3) 0) 0
+
+-- bytes 4-7: the first address
+abbrev pub firstAt : List ℕ → ℕ → ℕ
+firstAt m i = wordAt m (12 * i + 4)
+
+-- bytes 8-11: the length
+abbrev pub lengthAt : List ℕ → ℕ → ℕ
+lengthAt m i = wordAt m (12 * i + 8)
+
+-- the address after the last of record i
+abbrev pub endAt : List ℕ → ℕ → ℕ
+endAt m i = firstAt m i + lengthAt m i
+
+-- record i holds the address a
+unfoldable pub holds : List ℕ → ℕ → ℕ → Bool
+holds m i a = leb (firstAt m i) a && ltb a (endAt m i)
+
+-- ---- the first fault
+
+-- records i and j share an address
+unfoldable pub shares : List ℕ → ℕ → ℕ → Bool
+shares m i j = ltb (firstAt m i) (endAt m j) && ltb (firstAt m j) (endAt m i)
+
+-- record i shares an address with a permitted one of the first n records
+unfoldable pub sharesAny : List ℕ → ℕ → ℕ → Bool
+sharesAny m i zero = false
+sharesAny m i (suc j) = (permitted m j && shares m i j) || sharesAny m i j
+
+-- record i breaks no rule
+unfoldable pub soundAt : List ℕ → ℕ → Bool
+soundAt m i =
+    marked m i && (permitted m i || reserved m i) && zeroed m i && leb 1 (lengthAt m i) && leb (endAt m i) (2 ^ 32)
+    && not (permitted m i && sharesAny m i i)
+
+-- the first of the n records from i on that breaks a rule
+unfoldable pub faultFrom : List ℕ → ℕ → ℕ → MapFault
+faultFrom m zero i = Sound
+faultFrom m (suc n) i = if (soundAt m i) (faultFrom m n (suc i)) (Record i)
+
+-- the first fault of a map: its length, or a record
+unfoldable pub mapFault : List ℕ → MapFault
+mapFault m = if (eqb (length m % 12) 0 && leb (length m) 768) (faultFrom m (count m) 0) Length
+
+-- a map with no fault is sound
+abbrev pub SoundMap : List ℕ → Type 0
+SoundMap m = mapFault m ≡ Sound
+
+-- ---- memory
+
+-- the lengths of the permitted ones of the first n records together
+unfoldable pub sizeBefore : List ℕ → ℕ → ℕ
+sizeBefore m zero = 0
+sizeBefore m (suc i) = sizeBefore m i + if (permitted m i) (lengthAt m i) 0
+
+-- the permitted sum: how many bytes lent memory has
+abbrev pub memorySize : List ℕ → ℕ
+memorySize m = sizeBefore m (count m)
+
+-- what judging a map answers: the number and place of its fault, or the permitted sum
+abbrev pub mapRefused : ℕ → ℕ → MapAnswer
+mapRefused number place = record { number = number; place = place; bytes = 0 }
+
+unfoldable pub faultAnswer : List ℕ → MapFault → MapAnswer
+faultAnswer m Sound = record { number = 0; place = 0; bytes = memorySize m }
+faultAnswer m Length = mapRefused MAP-LENGTH 0
+faultAnswer m (Record i) = mapRefused MAP-RECORD i
+
+unfoldable pub mapAnswer : List ℕ → MapAnswer
+mapAnswer m = faultAnswer m (mapFault m)
+
+-- ---- open addresses
+
+-- one of the first n records that are of a kind holds the address a
+unfoldable pub anyHolds : (ℕ → Bool) → List ℕ → ℕ → ℕ → Bool
+anyHolds kind m zero a = false
+anyHolds kind m (suc i) a = (kind i && holds m i a) || anyHolds kind m i a
+
+-- an address is open when a permitted record holds it and no reserved record does
+unfoldable pub isOpen : List ℕ → ℕ → Bool
+isOpen m a = anyHolds (permitted m) m (count m) a && not (anyHolds (reserved m) m (count m) a)
+
+-- the lowest of the n addresses from a on that is not open
+unfoldable pub closedFrom : List ℕ → ℕ → ℕ → Closed
+closedFrom m zero a = Nowhere
+closedFrom m (suc n) a = if (isOpen m a) (closedFrom m n (suc a)) (At a)
+
+-- ---- places
+
+-- the permitted one of the first n records that holds the address a
+unfoldable pub holder : List ℕ → ℕ → ℕ → Found
+holder m zero a = Nothing
+holder m (suc i) a = if (permitted m i && holds m i a) (Index i) (holder m i a)
+
+-- the permitted lengths before record i, plus the address less the record's first
+abbrev pub placeIn : List ℕ → ℕ → Found → ℕ
+placeIn m a Nothing = 0
+placeIn m a (Index i) = sizeBefore m i + (a - firstAt m i)
+
+-- where in memory the byte for the address a stands
+unfoldable pub placeOf : List ℕ → ℕ → ℕ
+placeOf m a = placeIn m a (holder m (count m) a)

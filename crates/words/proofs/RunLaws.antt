@@ -1,0 +1,30 @@
+-- Laws of runs that are copied and stored.
+use Prim.Native.Nat.{ℕ, suc, _+_, _-_, _≤_, _<_}
+use mathlib.Core.Path.{_≡_, sym, _∙_}
+use mathlib.Core.List.{List, [], _++_, append-assoc, append-nil}
+use native.Mathlib.Numerals.{add-one}
+use native.Mathlib.Omega.{arith}
+use lib.ListN.{length, getD, take, drop, set, length-drop, drop-of-length-le}
+use lib.Seq.{drop-cons, take-suc, set-at, append-snoc, length-take-le, drop-drop, take-all}
+use borrow.Rule.Slice.PartMut.{putMid}
+use Rattle.words.specs.Run.{over}
+
+-- a turn of the copy: one byte more
+pub copy-more : (s d : List ℕ) (i : ℕ) → i < length s → i < length d → set (take i s ++ drop i d) i (getD s i 0) ≡ take (i + 1) s ++ drop (i + 1) d
+copy-more s d i h k =
+    let n : length (take i s) ≡ i = length-take-le i s (omega arith) in
+    rw (add-one, drop-cons d i 0, take-suc s i 0)
+    (set-at (take i s) (getD d i 0) (drop (suc i) d) (getD s i 0) i n ∙ sym (append-snoc (take i s) (getD s i 0) (drop (suc i) d)))
+
+-- a part that was lent from an offset on, and got xs at its front, is back
+pub lent-back : (d xs l : List ℕ) (to : ℕ) → to ≤ length d → l ≡ xs ++ drop (length xs) (take (length d - to) (drop to d))
+    → putMid to (length d - to) d l ≡ over d to xs
+unfolding over
+lent-back d xs l to h e =
+    let t : take (length d - to) (drop to d) ≡ drop to d = take-all (length d - to) (drop to d) (omega (arith, length-drop to d)) in
+    let p : drop (length d - to) (drop to d) ≡ [] = drop-of-length-le (drop to d) {i = length d - to} (omega (arith, length-drop to d)) in
+    rw (e, t, drop-drop (length xs) to d, p) (simp (append-nil, append-assoc))
+
+-- a part that is lent to the end
+pub part-to-end : (s : List ℕ) (a : ℕ) → take (length s - a) (drop a s) ≡ drop a s
+part-to-end s a = take-all (length s - a) (drop a s) (omega (arith, length-drop a s))

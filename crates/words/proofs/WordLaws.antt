@@ -1,0 +1,75 @@
+-- Laws of words and pads: what is written is read back, and what is read is written back.
+use mathlib.Core.Path.{_≡_, refl}
+use mathlib.Core.List.{List, [], _∷_, _++_}
+use Prim.Native.Nat.{ℕ, _+_, _-_, _*_, _/_, _%_, _≤_, _<_, _^_}
+use native.Mathlib.Omega.{arith}
+use native.Mathlib.Nat.{add-zero, add-assoc, mod-eq-of-lt, div-div-eq-div-mul}
+use lib.ListN.{length, take, drop, length-drop}
+use lib.Seq.{getD-append-add, getD-drop}
+use Rattle.words.specs.Word.{Bytes, wordAt, wordBytes, padCount}
+
+-- a word of a list that stands behind another
+pub word-add : (p q : List ℕ) (i : ℕ) → wordAt (p ++ q) (length p + i) ≡ wordAt q i
+unfolding wordAt
+word-add p q i = simp (add-assoc, getD-append-add)
+
+pub word-seam : (p q : List ℕ) → wordAt (p ++ q) (length p) ≡ wordAt q 0
+word-seam p q = rw add-zero at (word-add p q 0)
+
+pub word-drop : (t : List ℕ) (i : ℕ) → wordAt (drop i t) 0 ≡ wordAt t i
+unfolding wordAt
+word-drop t i = simp (getD-drop, add-zero)
+
+-- a word that is written is read back
+pub word-bytes : (n : ℕ) (q : List ℕ) → n < 2 ^ 32 → wordAt (wordBytes n ++ q) 0 ≡ n
+unfolding wordAt wordBytes
+word-bytes n q h =
+    let s : n / 256 / 256 ≡ n / 65536 = div-div-eq-div-mul n 256 256 in
+    let r : n / 65536 / 256 ≡ n / 16777216 = div-div-eq-div-mul n 65536 256 in
+    let top : n / 16777216 % 256 ≡ n / 16777216 = mod-eq-of-lt (omega arith) in
+    let two : n / 65536 ≡ n / 16777216 * 256 + n / 65536 % 256 = omega arith in
+    let three : n / 256 ≡ n / 65536 * 256 + n / 256 % 256 = omega arith in
+    omega arith
+
+pub length-word : (n : ℕ) → length (wordBytes n) ≡ 4
+unfolding wordBytes
+length-word n = refl
+
+-- the bytes of a word that was put together from bytes
+digits : (a b c d : ℕ) → a < 256 → b < 256 → c < 256 → d < 256 → wordBytes (((a * 256 + b) * 256 + c) * 256 + d) ≡ a ∷ b ∷ c ∷ d ∷ []
+unfolding wordBytes
+digits a b c d ha hb hc hd =
+    let n : ℕ = ((a * 256 + b) * 256 + c) * 256 + d in
+    let p : n / 16777216 % 256 ≡ a = omega (arith, div-div-eq-div-mul n 256 256, div-div-eq-div-mul n 65536 256) in
+    let q : n / 65536 % 256 ≡ b = omega (arith, div-div-eq-div-mul n 256 256) in
+    let r : n / 256 % 256 ≡ c = omega arith in
+    let s : n % 256 ≡ d = omega arith in
+    cc
+
+bytes-word-front : (t : List ℕ) → Bytes t → 4 ≤ length t → wordBytes (wordAt t 0) ≡ take 4 t
+unfolding wordAt
+bytes-word-front [] b h = absurd (omega arith)
+bytes-word-front (x ∷ []) b h = absurd (omega arith)
+bytes-word-front (x ∷ y ∷ []) b h = absurd (omega arith)
+bytes-word-front (x ∷ y ∷ z ∷ []) b h = absurd (omega arith)
+bytes-word-front (x ∷ y ∷ z ∷ w ∷ t) b h = digits x y z w (b 0) (b 1) (b 2) (b 3)
+
+pub bytes-drop : (t : List ℕ) (i : ℕ) → Bytes t → Bytes (drop i t)
+bytes-drop t i b j = rw getD-drop (b (i + j))
+
+-- a word that is read is written back
+pub bytes-word : (t : List ℕ) (i : ℕ) → Bytes t → i + 4 ≤ length t → wordBytes (wordAt t i) ≡ take 4 (drop i t)
+bytes-word t i b h = rw (← (word-drop t i)) (bytes-word-front (drop i t) (bytes-drop t i b) (simp length-drop (omega arith)))
+
+pub word-lt : (t : List ℕ) (i : ℕ) → Bytes t → wordAt t i < 2 ^ 32
+unfolding wordAt
+word-lt t i b = omega (arith, b i, b (i + 1), b (i + 2), b (i + 3))
+
+-- pads end at a multiple of four, and are fewer than four
+pub pad-lt : (n : ℕ) → padCount n < 4
+unfolding padCount
+pad-lt n = omega arith
+
+pub pad-aligns : (n : ℕ) → (n + padCount n) % 4 ≡ 0
+unfolding padCount
+pad-aligns n = omega arith

@@ -1,0 +1,38 @@
+-- The numbers of the refusals ("Numbers given back").
+use Prim.Native.Nat.{ℕ}
+
+-- the map's length is no multiple of 12, or over 768
+abbrev pub MAP-LENGTH : ℕ
+MAP-LENGTH = 1
+
+-- a map record breaks a rule
+abbrev pub MAP-RECORD : ℕ
+MAP-RECORD = 2
+
+-- the memory's length differs from the permitted sum
+abbrev pub MEMORY-LENGTH : ℕ
+MEMORY-LENGTH = 3
+
+-- the boot table is over its limit
+abbrev pub TABLE-LONG : ℕ
+TABLE-LONG = 4
+
+-- the boot table is cut short
+abbrev pub TABLE-CUT : ℕ
+TABLE-CUT = 5
+
+-- a pad byte is not zero
+abbrev pub PAD-NOT-ZERO : ℕ
+PAD-NOT-ZERO = 6
+
+-- bytes stand after the zero word
+abbrev pub BYTES-AFTER : ℕ
+BYTES-AFTER = 7
+
+-- address plus size is over 2^32
+abbrev pub PAST-TOP : ℕ
+PAST-TOP = 8
+
+-- an address is not open
+abbrev pub NOT-OPEN : ℕ
+NOT-OPEN = 9

@@ -1,0 +1,28 @@
+// The numbers of the refusals.
+
+// The map's length is no multiple of 12, or over 768.
+pub const MAP_LENGTH: u32 = 1;
+
+// A map record breaks a rule.
+pub const MAP_RECORD: u32 = 2;
+
+// The memory's length differs from the permitted sum.
+pub const MEMORY_LENGTH: u32 = 3;
+
+// The boot table is over its limit.
+pub const TABLE_LONG: u32 = 4;
+
+// The boot table is cut short.
+pub const TABLE_CUT: u32 = 5;
+
+// A pad byte is not zero.
+pub const PAD_NOT_ZERO: u32 = 6;
+
+// Bytes stand after the zero word.
+pub const BYTES_AFTER: u32 = 7;
+
+// Address plus size is over 2^32.
+pub const PAST_TOP: u32 = 8;
+
+// An address is not open.
+pub const NOT_OPEN: u32 = 9;
