@@ -6,7 +6,7 @@ use mathlib.Core.Logic.{by-cases}
 use native.Mathlib.Nat.{zero-add, add-zero}
 use native.Mathlib.Omega.{arith}
 use native.Mathlib.Decide.{decLe, ℕ-discrete}
-use borrow.Author.Tests.{eq-eqb, ne-eqb, le-leb, lt-leb}
+use borrow.Author.Tests.{eq-eqb, ne-eqb, lt-ltb, le-ltb}
 use lib.ListN.{length}
 use lib.Dec.{eqb}
 use Rattle.words.specs.Choice.{if}
@@ -36,17 +36,17 @@ module _ (t : List ℕ) where
   -- a table over the limit
   pub form-long : limit < length t → formOf t ≡ misformed TABLE-LONG 0
   unfolding formOf
-  form-long h = simp (lt-leb _ _ h)
+  form-long h = simp (lt-ltb _ _ h)
 
   -- a table without its entry word
   pub form-cut : length t ≤ limit → length t < 4 → formOf t ≡ misformed TABLE-CUT 0
   unfolding formOf reading readForm
-  form-cut h k = simp (le-leb _ _ h, lt-leb _ _ k)
+  form-cut h k = simp (le-ltb _ _ h, lt-ltb _ _ k)
 
   -- the walk begins behind the entry word with nothing passed
   pub form-start : length t ≤ limit → 4 ≤ length t → formOf t ≡ tally 0 0 (readOn t 4)
   unfolding formOf reading readForm tally
-  form-start h k = simp (le-leb _ _ h, le-leb _ _ k, zero-add)
+  form-start h k = simp (le-ltb _ _ h, le-ltb _ _ k, zero-add)
 
   module _ (k b at : ℕ) where
     -- a section is passed
@@ -78,21 +78,21 @@ form-well t z =
     by-cases (decLe (length t) limit)
     (λ h. by-cases (ℕ-discrete (reading t .fault) 0)
     (λ f. record { short = h; whole = f })
-    (λ f. absurd (f (simp (le-leb _ _ h, ne-eqb _ _ f) at z))))
-    (λ h. absurd (not-zero (simp (lt-leb (length t) limit (omega arith)) at z)))
+    (λ f. absurd (f (simp (le-ltb _ _ h, ne-eqb _ _ f) at z))))
+    (λ h. absurd (not-zero (simp (lt-ltb limit (length t) (omega arith)) at z)))
 
 -- the form of a well-formed table counts its sections and their data bytes
 pub well-form : (t : List ℕ) → WellFormed t → formOf t ≡ formed (length (reading t .sections)) (total (reading t .sections))
 unfolding formOf readForm
-well-form t w = simp (le-leb _ _ (w .short), eq-eqb _ _ (w .whole))
+well-form t w = simp (le-ltb _ _ (w .short), eq-eqb _ _ (w .whole))
 
 -- a well-formed table is read from offset 4 on, without a fault
 pub well-read : (t : List ℕ) → WellFormed t → (reading t ≡ readOn t 4) × (readOn t 4 .fault ≡ 0)
 unfolding reading
 well-read t w =
     by-cases (decLe 4 (length t))
-    (λ h. (simp (le-leb _ _ h), simp (le-leb _ _ h) at (w .whole)))
-    (λ h. absurd (not-zero (simp (lt-leb 4 (length t) (omega arith)) at (w .whole))))
+    (λ h. (simp (le-ltb _ _ h), simp (le-ltb _ _ h) at (w .whole)))
+    (λ h. absurd (not-zero (simp (lt-ltb (length t) 4 (omega arith)) at (w .whole))))
 
 -- a well-formed table has its entry and its zero word
 pub well-long : (t : List ℕ) → WellFormed t → 8 ≤ length t

@@ -4,7 +4,7 @@ use mathlib.Core.Path.{_≡_, refl, sym, ap, _∙_}
 use mathlib.Core.List.{List, [], _∷_, _++_, append-assoc, append-nil}
 use mathlib.Core.Bool.{true}
 use native.Mathlib.Omega.{arith}
-use borrow.Author.Tests.{le-leb, ne-eqb}
+use borrow.Author.Tests.{le-ltb, ne-eqb}
 use lib.ListN.{length, take, drop, replicate, length-append, length-drop, length-replicate, take-append-drop}
 use lib.Seq.{take-all, take-at, drop-at, drop-drop}
 use Rattle.words.specs.Word.{Bytes, wordAt, wordBytes, padCount}
@@ -134,7 +134,7 @@ read-chunks t p at (also {s = s} {ss = ss} v vs) e l =
 pub read-table : (entry : ℕ) (ss : List Sect) → All Valid ss → reading (table entry ss) ≡ record { sections = ss; fault = 0; place = 0 }
 unfolding table reading
 read-table entry ss v =
-    rw (le-leb 4 (length (table entry ss)) (simp (length-append, length-word) (omega arith)))
+    rw (le-ltb (length (table entry ss)) 4 (simp (length-append, length-word) (omega arith)))
     (read-chunks (table entry ss) (wordBytes entry) 4 v (simp append-assoc) (sym (length-word entry)))
 
 -- The entry is read back too.

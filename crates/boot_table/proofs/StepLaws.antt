@@ -1,15 +1,15 @@
 -- The walk step: what each outcome says of the table, and when it comes out.
 use Prim.Native.Nat.{ℕ, _+_, _-_, _^_, _≤_, _<_}
-use mathlib.Core.Path.{_≡_, refl, sym, subst}
+use mathlib.Core.Path.{_≡_, refl, sym, _∙_, subst}
 use mathlib.Core.List.{List, [], _∷_}
-use mathlib.Core.Bool.{Bool, true, false}
+use mathlib.Core.Bool.{Bool, true, false, not}
 use mathlib.Core.Logic.{⊎-elim}
 use native.Mathlib.Numerals.{add-one}
 use native.Mathlib.Omega.{arith}
-use borrow.Author.Tests.{eq-eqb, ne-eqb, le-leb, lt-leb, leb-true, eqb-true, eqb-false}
+use borrow.Author.Tests.{eq-eqb, ne-eqb, lt-ltb, le-ltb, ltb-false, eqb-true, eqb-false, not-false}
 use lib.ListN.{length, getD, take, drop, length-append, length-drop}
 use lib.Seq.{drop-cons, length-take-le}
-use lib.Dec.{leb, eqb}
+use lib.Dec.{ltb, eqb}
 use types.Run.{OneOf}
 use denote.Enum.Declared.{tagOf}
 use Rattle.words.specs.Word.{wordAt, padCount}
@@ -19,7 +19,7 @@ use Rattle.words.proofs.WordLaws.{length-word}
 use Rattle.boot_table.proofs.Step.{the-type}
 use Rattle.boot_table.specs.declared.Step.{Step}
 use Rattle.boot_table.specs.declared.Step.the-variants.{Section, End, Fault}
-use Rattle.boot_table.specs.Table.{chunk, allZero, padsAt, nextOf, stepAt, sectionAt}
+use Rattle.boot_table.specs.Table.{chunk, allZero, padsAt, nextOf, endStep, sectionStep, stepAt, sectionAt}
 
 -- ---- zero bytes
 
@@ -46,29 +46,38 @@ pads-found t at size pads b e f =
 -- no room for the size word
 pub step-cut : (t : List ℕ) (at : ℕ) → length t < at + 4 → stepAt t at ≡ Fault TABLE-CUT at
 unfolding stepAt
-step-cut t at h = simp (lt-leb _ _ h)
+step-cut t at h = simp (lt-ltb _ _ h)
+
+-- room for it: the step goes by the size
+step-zero : (t : List ℕ) (at size : ℕ) → at + 4 ≤ length t → size ≡ wordAt t at → size ≡ 0 → stepAt t at ≡ endStep t at
+unfolding stepAt
+step-zero t at size head es z = rw (← es) (simp (le-ltb _ _ head, eq-eqb _ _ z))
+
+step-some : (t : List ℕ) (at size : ℕ) → at + 4 ≤ length t → size ≡ wordAt t at → (size ≡ 0 → ⊥) → stepAt t at ≡ sectionStep t at size (wordAt t (at + 4))
+unfolding stepAt
+step-some t at size head es z = rw (← es) (simp (le-ltb _ _ head, ne-eqb _ _ z))
 
 module _ (t : List ℕ) (at size : ℕ) (head : at + 4 ≤ length t) (es : size ≡ wordAt t at) where
   -- bytes after the zero word
   pub step-after : size ≡ 0 → at + 4 < length t → stepAt t at ≡ Fault BYTES-AFTER (at + 4)
-  unfolding stepAt
-  step-after z h = rw (← es) (simp (le-leb _ _ head, eq-eqb _ _ z, lt-leb _ _ h))
+  unfolding endStep
+  step-after z h = step-zero t at size head es z ∙ simp (lt-ltb _ _ h)
 
   -- no room for the section
   pub step-short : (size ≡ 0 → ⊥) → length t < nextOf at size → stepAt t at ≡ Fault TABLE-CUT at
-  unfolding stepAt
-  step-short z h = rw (← es) (simp (le-leb _ _ head, ne-eqb _ _ z, lt-leb _ _ h))
+  unfolding sectionStep
+  step-short z h = step-some t at size head es z ∙ simp (lt-ltb _ _ h)
 
   module _ (address : ℕ) (z : size ≡ 0 → ⊥) (within : nextOf at size ≤ length t) (ea : address ≡ wordAt t (at + 4)) where
     -- addresses past the top
     pub step-high : 2 ^ 32 < address + size → stepAt t at ≡ Fault PAST-TOP at
-    unfolding stepAt
-    step-high h = rw (← es, ← ea) (simp (le-leb _ _ head, ne-eqb _ _ z, le-leb _ _ within, lt-leb _ _ h))
+    unfolding sectionStep
+    step-high h = step-some t at size head es z ∙ rw (← ea) (simp (le-ltb _ _ within, lt-ltb _ _ h))
 
     -- a pad that is not zero
     pub step-pad : address + size ≤ 2 ^ 32 → allZero (padsAt t at size) ≡ false → stepAt t at ≡ Fault PAD-NOT-ZERO at
-    unfolding stepAt
-    step-pad h p = rw (← es, ← ea) (simp (le-leb _ _ head, ne-eqb _ _ z, le-leb _ _ within, le-leb _ _ h, p))
+    unfolding sectionStep
+    step-pad h p = step-some t at size head es z ∙ rw (← ea) (simp (le-ltb _ _ within, le-ltb _ _ h, p))
 
 -- ---- sections and the end, as facts
 
@@ -86,21 +95,20 @@ pub record IsSection (t : List ℕ) (at address size start next : ℕ) : Type 0 
 
 -- where the facts of a section hold the step finds it
 pub section-step : (t : List ℕ) (at : ℕ) {address size start next : ℕ} → IsSection t at address size start next → stepAt t at ≡ Section address size start next
-unfolding stepAt nextOf
+unfolding sectionStep nextOf
 section-step t at {address} {size} i =
-    rw (← (i .size-is), ← (i .address-is), i .start-is, i .next-is)
+    step-some t at size (omega (arith, i .head)) (i .size-is) (λ z. omega (arith, i .some))
+    ∙ rw (← (i .address-is), i .start-is, i .next-is)
     (simp (
-      le-leb (at + 4) (length t) (omega (arith, i .head)),
-      ne-eqb size 0 (λ z. omega (arith, i .some)),
-      le-leb (at + 8 + size + padCount size) (length t) (omega (arith, i .within, i .next-is)),
-      le-leb (address + size) (2 ^ 32) (i .top),
+      le-ltb (length t) (at + 8 + size + padCount size) (omega (arith, i .within, i .next-is)),
+      le-ltb (2 ^ 32) (address + size) (i .top),
       i .zeros,
     ))
 
 -- a zero word at the end of the table is its end
 pub end-step : (t : List ℕ) (at : ℕ) → length t ≡ at + 4 → wordAt t at ≡ 0 → stepAt t at ≡ End
-unfolding stepAt
-end-step t at l z = simp (le-leb (at + 4) (length t) (omega arith), eq-eqb (wordAt t at) 0 z, le-leb (length t) (at + 4) (omega arith))
+unfolding endStep
+end-step t at l z = step-zero t at (wordAt t at) (omega arith) refl z ∙ simp (le-ltb (at + 4) (length t) (omega arith))
 
 -- ---- what an outcome says of the table
 
@@ -124,31 +132,31 @@ fault-says t at number place s h e = subst (Says t at) e (λ z. omega arith)
 
 -- a step is followed down its tests
 step-says : (t : List ℕ) (at : ℕ) (s : Step) → stepAt t at ≡ s → Says t at s
-unfolding stepAt nextOf
+unfolding stepAt endStep sectionStep nextOf
 step-says t at s e =
-    if-split (leb (at + 4) (length t)) _ _ s e
+    if-split (ltb (length t) (at + 4)) _ _ s e
+    (λ h1. fault-says t at _ _ s (omega arith))
     (λ h1 e1. if-split (eqb (wordAt t at) 0) _ _ s e1
-    (λ h2 e2. if-split (leb (length t) (at + 4)) _ _ s e2
-    (λ h3. end-says t at s (omega (arith, leb-true (at + 4) (length t) h1, leb-true (length t) (at + 4) h3)) (eqb-true _ _ h2))
-    (λ h3. fault-says t at _ _ s (omega arith)))
-    (λ h2 e2. if-split (leb (nextOf at (wordAt t at)) (length t)) _ _ s e2
-    (λ h3 e3. if-split (leb (wordAt t (at + 4) + wordAt t at) (2 ^ 32)) _ _ s e3
-    (λ h4 e4. if-split (allZero (padsAt t at (wordAt t at))) _ _ s e4
+    (λ h2 e2. if-split (ltb (at + 4) (length t)) _ _ s e2
+    (λ h3. fault-says t at _ _ s (omega arith))
+    (λ h3. end-says t at s (omega (arith, ltb-false (length t) (at + 4) h1, ltb-false (at + 4) (length t) h3)) (eqb-true _ _ h2)))
+    (λ h2 e2. if-split (ltb (length t) (nextOf at (wordAt t at))) _ _ s e2
+    (λ h3. fault-says t at _ _ s (omega arith))
+    (λ h3 e3. if-split (ltb (2 ^ 32) (wordAt t (at + 4) + wordAt t at)) _ _ s e3
+    (λ h4. fault-says t at _ _ s (omega arith))
+    (λ h4 e4. if-split (not (allZero (padsAt t at (wordAt t at)))) _ _ s e4
+    (λ h5. fault-says t at _ _ s (omega arith))
     (λ h5. section-says t at _ _ _ _ s (record {
       start-is = refl;
       next-is = refl;
-      within = leb-true _ _ h3;
+      within = ltb-false _ _ h3;
       some = omega (arith, eqb-false (wordAt t at) 0 h2);
-      head = omega (arith, leb-true (at + 8 + wordAt t at + padCount (wordAt t at)) (length t) h3);
+      head = omega (arith, ltb-false (length t) (at + 8 + wordAt t at + padCount (wordAt t at)) h3);
       size-is = refl;
       address-is = refl;
-      top = leb-true _ _ h4;
-      zeros = h5;
-    }))
-    (λ h5. fault-says t at _ _ s (omega arith)))
-    (λ h4. fault-says t at _ _ s (omega arith)))
-    (λ h3. fault-says t at _ _ s (omega arith))))
-    (λ h1. fault-says t at _ _ s (omega arith))
+      top = ltb-false _ _ h4;
+      zeros = not-false _ h5;
+    }))))))
 
 -- a section that the step finds has its facts
 pub section-of : (t : List ℕ) (at : ℕ) {address size start next : ℕ} → stepAt t at ≡ Section address size start next → IsSection t at address size start next

@@ -3,7 +3,7 @@ use Prim.Native.Nat.{ℕ, _+_, _≤_}
 use mathlib.Core.Path.{_≡_}
 use mathlib.Core.List.{List, [], _∷_}
 use lib.ListN.{length}
-use lib.Dec.{leb, eqb}
+use lib.Dec.{ltb, eqb}
 use Rattle.words.specs.Choice.{if}
 use Rattle.words.specs.Refusal.{TABLE-LONG}
 use Rattle.boot_table.specs.declared.Form.{Form}
@@ -30,7 +30,7 @@ readForm r = if (eqb (r .fault) 0) (formed (length (r .sections)) (total (r .sec
 
 -- the form of a table: its limit, and then its first fault in table order
 unfoldable pub formOf : List ℕ → Form
-formOf t = if (leb (length t) limit) (readForm (reading t)) (misformed TABLE-LONG 0)
+formOf t = if (ltb limit (length t)) (misformed TABLE-LONG 0) (readForm (reading t))
 
 -- a table is well-formed: within the limit, and read to its end without a fault
 pub record WellFormed (t : List ℕ) : Type 0 where

@@ -1,9 +1,9 @@
 -- The boot table: its sections, its bytes, and what a walk over it finds. t is a table.
 use Prim.Native.Nat.{ℕ, zero, suc, _+_, _^_}
 use mathlib.Core.List.{List, [], _∷_, _++_}
-use mathlib.Core.Bool.{Bool, true, false}
+use mathlib.Core.Bool.{Bool, true, false, not}
 use lib.ListN.{length, take, drop}
-use lib.Dec.{leb, eqb}
+use lib.Dec.{ltb, eqb}
 use Rattle.words.specs.Choice.{if}
 use Rattle.words.specs.Word.{wordAt, wordBytes, padCount}
 use Rattle.words.specs.Refusal.{TABLE-CUT, PAD-NOT-ZERO, BYTES-AFTER, PAST-TOP}
@@ -44,20 +44,24 @@ padsAt t at size = take (padCount size) (drop (at + 8 + size) t)
 unfoldable pub nextOf : ℕ → ℕ → ℕ
 nextOf at size = at + 8 + size + padCount size
 
+-- a zero word at offset at: bytes stand after it, or it is the end
+unfoldable pub endStep : List ℕ → ℕ → Step
+endStep t at = if (ltb (at + 4) (length t)) (Fault BYTES-AFTER (at + 4)) End
+
+-- a section at offset at, of size data bytes for an address: it is cut short, or past the top, or has a pad that is not zero, or is whole
+unfoldable pub sectionStep : List ℕ → ℕ → ℕ → ℕ → Step
+sectionStep t at size address =
+    if (ltb (length t) (nextOf at size)) (Fault TABLE-CUT at)
+    (if (ltb (2 ^ 32) (address + size)) (Fault PAST-TOP at)
+    (if (not (allZero (padsAt t at size))) (Fault PAD-NOT-ZERO at)
+    (Section address size (at + 8) (nextOf at size))))
+
 -- the walk step: what stands at offset at
 unfoldable pub stepAt : List ℕ → ℕ → Step
 stepAt t at =
-    if (leb (at + 4) (length t))
-    (if (eqb (wordAt t at) 0)
-    (if (leb (length t) (at + 4)) End (Fault BYTES-AFTER (at + 4)))
-    (if (leb (nextOf at (wordAt t at)) (length t))
-    (if (leb (wordAt t (at + 4) + wordAt t at) (2 ^ 32))
-    (if (allZero (padsAt t at (wordAt t at)))
-    (Section (wordAt t (at + 4)) (wordAt t at) (at + 8) (nextOf at (wordAt t at)))
-    (Fault PAD-NOT-ZERO at))
-    (Fault PAST-TOP at))
-    (Fault TABLE-CUT at)))
-    (Fault TABLE-CUT at)
+    if (ltb (length t) (at + 4)) (Fault TABLE-CUT at)
+    (if (eqb (wordAt t at) 0) (endStep t at)
+    (sectionStep t at (wordAt t at) (wordAt t (at + 4))))
 
 -- ---- reading a table
 
@@ -94,4 +98,4 @@ readOn t at = readFrom (length t) t at
 
 -- reading a table: the entry word, and then the walk
 unfoldable pub reading : List ℕ → Reading
-reading t = if (leb 4 (length t)) (readOn t 4) (stop TABLE-CUT 0)
+reading t = if (ltb (length t) 4) (stop TABLE-CUT 0) (readOn t 4)

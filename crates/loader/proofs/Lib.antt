@@ -1,3 +1,4 @@
 pub mod StoreLaws
 pub mod RuleLaws
+pub mod AnswerLaws
 pub mod LoadLaws

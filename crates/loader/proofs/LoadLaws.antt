@@ -1,102 +1,31 @@
 -- Laws of judging and loading: when a table is accepted, and what memory holds afterwards.
 use mathlib.Core.Path.{_≡_, refl, sym, _∙_, ap}
 use mathlib.Core.Logic.{_≢_, _↔_, by-cases}
-use mathlib.Core.List.{List}
-use mathlib.Core.Bool.{Bool, true}
+use mathlib.Core.List.{List, [], _∷_}
+use mathlib.Core.Bool.{true, false, not}
 use mathlib.Core.Option.{Option·getD}
-use Prim.Native.Nat.{ℕ}
+use Prim.Native.Nat.{ℕ, _+_}
 use native.Mathlib.Decide.{ℕ-discrete}
 use native.Mathlib.Omega.{arith}
-use borrow.Author.Tests.{eq-eqb, ne-eqb}
 use lib.ListN.{length, getD}
-use Rattle.words.specs.Word.{wordAt}
-use Rattle.words.specs.Refusal.{MEMORY-LENGTH}
-use Rattle.region_map.specs.Map.{mapAnswer, memorySize, isOpen, placeOf}
+use lib.Dec.{eqb}
+use Rattle.words.specs.Refusal.{MEMORY-LENGTH, NOT-OPEN}
+use Rattle.words.proofs.ChoiceLaws.{if-both}
+use Rattle.region_map.specs.declared.Closed.{Closed}
+use Rattle.region_map.specs.declared.Closed.the-variants.{Nowhere, At}
+use Rattle.region_map.specs.Map.{mapAnswer, memorySize, isOpen, closedFrom, placeOf}
 use Rattle.region_map.specs.declared.MapAnswer.{MapAnswer}
 use Rattle.region_map.proofs.FaultLaws.{answer-sound, sound-answer}
-use Rattle.boot_table.specs.Table.{reading}
-use Rattle.boot_table.specs.declared.Form.{Form}
-use Rattle.boot_table.specs.Form.{formOf, WellFormed}
+use Rattle.boot_table.specs.Table.{Sect, chunk, reading}
+use Rattle.boot_table.specs.Form.{formOf}
 use Rattle.boot_table.specs.Meaning.{lastByte}
-use Rattle.boot_table.proofs.FormLaws.{form-well, well-form}
-use Rattle.boot_table.specs.Valid.{All}
 use Rattle.loader.specs.declared.Answer.{Answer}
 use Rattle.loader.specs.Store.{storeAll}
-use Rattle.loader.specs.Load.{refused, accepted, mapRule, tableAnswer, judgeAnswer, loadAnswer, loadMemory, Opens, Accepted}
+use Rattle.loader.specs.Load.{refused, onClosed, accepted, mapRule, tableAnswer, judgeAnswer, loadAnswer, loadMemory, Accepted}
 use Rattle.loader.proofs.StoreLaws.{storeAll-at, storeAll-miss}
-use Rattle.loader.proofs.RuleLaws.{opens-rule, rule-opens}
-
--- ---- each answer, by the tests that lead to it: j is the map's, f the table's form
-
-module _ (m t : List ℕ) where
-  pub map-refused : (j : MapAnswer) → j ≡ mapAnswer m → (j .number ≡ 0 → ⊥) → refused (j .number) (j .place) ≡ judgeAnswer m t
-  unfolding judgeAnswer
-  map-refused j e n = rw (← e) (simp (ne-eqb _ _ n))
-
-  pub map-judged : (j : MapAnswer) → j ≡ mapAnswer m → j .number ≡ 0 → tableAnswer m t ≡ judgeAnswer m t
-  unfolding judgeAnswer
-  map-judged j e z = rw (← e) (simp (eq-eqb _ _ z))
-
-  pub form-refused : (f : Form) → f ≡ formOf t → (f .number ≡ 0 → ⊥) → refused (f .number) (f .place) ≡ tableAnswer m t
-  unfolding tableAnswer
-  form-refused f e n = rw (← e) (simp (ne-eqb _ _ n))
-
-  pub form-judged : (f : Form) → f ≡ formOf t → f .number ≡ 0 → mapRule m (accepted m t) 4 (reading t .sections) ≡ tableAnswer m t
-  unfolding tableAnswer
-  form-judged f e z = rw (← e) (simp (eq-eqb _ _ z))
-
-  module _ (room : ℕ) (j : MapAnswer) (e : j ≡ mapAnswer m) where
-    pub load-refused : (j .number ≡ 0 → ⊥) → refused (j .number) (j .place) ≡ loadAnswer m t room
-    unfolding loadAnswer
-    load-refused n = rw (← e) (simp (ne-eqb _ _ n))
-
-    pub load-sized : j .number ≡ 0 → (room ≡ memorySize m → ⊥) → refused MEMORY-LENGTH 0 ≡ loadAnswer m t room
-    unfolding loadAnswer
-    load-sized z n = rw (← e) (simp (eq-eqb _ _ z, ne-eqb _ _ n))
-
-    pub load-judged : j .number ≡ 0 → room ≡ memorySize m → tableAnswer m t ≡ loadAnswer m t room
-    unfolding loadAnswer
-    load-judged z s = rw (← e) (simp (eq-eqb _ _ z, eq-eqb _ _ s))
-
--- ---- memory, by the answer r
-
-module _ (m t mem : List ℕ) (r : Answer) (e : r ≡ loadAnswer m t (length mem)) where
-  pub memory-kept : (r .number ≡ 0 → ⊥) → mem ≡ loadMemory m t mem
-  unfolding loadMemory
-  memory-kept n = rw (← e) (simp (ne-eqb _ _ n))
-
-  pub memory-stored : r .number ≡ 0 → storeAll m mem (reading t .sections) ≡ loadMemory m t mem
-  unfolding loadMemory
-  memory-stored z = rw (← e) (simp (eq-eqb _ _ z))
-
--- ---- the parts of an answer
-
--- the bytes of a sound map's answer
-pub answer-bytes : (m : List ℕ) (j : MapAnswer) → j ≡ mapAnswer m → j .number ≡ 0 → j .bytes ≡ memorySize m
-answer-bytes m j e z =
-    ap (λ (r : MapAnswer). r .bytes) (e ∙ sound-answer m (answer-sound m (ap (λ (r : MapAnswer). r .number) (sym e) ∙ z)))
-
--- a form without a fault is a well-formed table's
-pub form-formed : (t : List ℕ) (f : Form) → f ≡ formOf t → f .number ≡ 0 → WellFormed t
-form-formed t f e z = form-well t (ap (λ (r : Form). r .number) (sym e) ∙ z)
-
--- the answer that is put together from the entry and the form
-pub fine-is : (m t : List ℕ) (f : Form) (entry : ℕ) (opens : Bool) → f ≡ formOf t → f .number ≡ 0 → entry ≡ wordAt t 0 → opens ≡ isOpen m entry
-    → record { number = 0; place = 0; address = 0; entry = entry; entry_open = opens; sections = f .sections; bytes = f .bytes } ≡ accepted m t
-unfolding accepted
-fine-is m t f entry opens e z p q = rw (q, p, e ∙ well-form t (form-formed t f e z))
+use Rattle.loader.proofs.AnswerLaws.{map-refused, map-judged, load-refused, load-sized, load-judged, memory-kept, memory-stored, table-only, table-if}
 
 -- ---- acceptance
-
--- under a sound map a table is accepted exactly where it is well-formed and keeps the map rule
-pub table-only : (m t : List ℕ) → tableAnswer m t .number ≡ 0 → (WellFormed t) × (All (Opens m) (reading t .sections))
-table-only m t z =
-    by-cases (ℕ-discrete (formOf t .number) 0)
-    (λ f. (form-well t f, rule-opens m (accepted m t) 4 (reading t .sections) (ap (λ (r : Answer). r .number) (form-judged m t (formOf t) refl f) ∙ z)))
-    (λ n. absurd (n (ap (λ (r : Answer). r .number) (form-refused m t (formOf t) refl n) ∙ z)))
-
-pub table-if : (m t : List ℕ) → WellFormed t → All (Opens m) (reading t .sections) → tableAnswer m t ≡ accepted m t
-table-if m t w o = sym (form-judged m t (formOf t) refl (ap (λ (f : Form). f .number) (well-form t w))) ∙ opens-rule m (accepted m t) 4 o
 
 module _ (m t : List ℕ) (room : ℕ) where
   accept-only : loadAnswer m t room .number ≡ 0 → Accepted m t room
@@ -122,6 +51,50 @@ module _ (m t : List ℕ) (room : ℕ) where
   unfolding accepted
   accepted-iff = (accept-only, λ a. ap (λ (r : Answer). r .number) (accepted-answer a))
 
+-- ---- refusals
+
+-- all fields of a refusal but its number and place are zero, and so is its address, except for an address that is not open
+pub record Blank (r : Answer) : Type 0 where
+  pub address : (r .number ≡ NOT-OPEN → ⊥) → r .address ≡ 0
+  pub entry : r .entry ≡ 0
+  pub «entry_open» : r .«entry_open» ≡ false
+  pub sections : r .sections ≡ 0
+  pub bytes : r .bytes ≡ 0
+
+-- an answer that is blank where it is a refusal
+abbrev Fair : Answer → Type 0
+Fair r = (r .number ≡ 0 → ⊥) → Blank r
+
+fair-refused : (number place : ℕ) → Fair (refused number place)
+fair-refused number place n = record { address = λ h. refl; entry = refl; entry_open = refl; sections = refl; bytes = refl }
+
+fair-closed : (at : ℕ) (later : Answer) (c : Closed) → Fair later → Fair (onClosed at later c)
+fair-closed at later Nowhere f = f
+fair-closed at later (At a) f = λ n. record { address = λ h. absurd (h refl); entry = refl; entry_open = refl; sections = refl; bytes = refl }
+
+fair-rule : (m : List ℕ) (fine : Answer) (at : ℕ) (ss : List Sect) → Fair fine → Fair (mapRule m fine at ss)
+unfolding mapRule
+fair-rule m fine at [] f = f
+fair-rule m fine at (s ∷ ss) f =
+    fair-closed at (mapRule m fine (at + length (chunk s)) ss) (closedFrom m (length (s .body)) (s .address)) (fair-rule m fine (at + length (chunk s)) ss f)
+
+fair-table : (m t : List ℕ) → Fair (tableAnswer m t)
+unfolding tableAnswer accepted
+fair-table m t =
+    if-both Fair (not (eqb (formOf t .number) 0)) _ _ (fair-refused (formOf t .number) (formOf t .place))
+    (fair-rule m (accepted m t) 4 (reading t .sections) (λ n. absurd (n refl)))
+
+-- a refusal has its number and place, and all else zero
+pub refusal-blank : (m t : List ℕ) (room : ℕ) → (loadAnswer m t room .number ≡ 0 → ⊥) → Blank (loadAnswer m t room)
+unfolding loadAnswer
+refusal-blank m t room =
+    if-both Fair (not (eqb (mapAnswer m .number) 0)) _ _ (fair-refused (mapAnswer m .number) (mapAnswer m .place))
+    (if-both Fair (not (eqb room (memorySize m))) _ _ (fair-refused MEMORY-LENGTH 0) (fair-table m t))
+
+-- and changes no byte
+pub refusal-keeps : (m t mem : List ℕ) → (loadAnswer m t (length mem) .number ≡ 0 → ⊥) → loadMemory m t mem ≡ mem
+refusal-keeps m t mem n = sym (memory-kept m t mem (loadAnswer m t (length mem)) refl n)
+
 -- ---- judging and loading
 
 -- judging answers as loading does wherever the memory has the map's size
@@ -130,6 +103,10 @@ judge-as-load m t room e =
     by-cases (ℕ-discrete (mapAnswer m .number) 0)
     (λ s. sym (map-judged m t (mapAnswer m) refl s) ∙ load-judged m t room (mapAnswer m) refl s e)
     (λ n. sym (map-refused m t (mapAnswer m) refl n) ∙ load-refused m t room (mapAnswer m) refl n)
+
+-- so a table is accepted by judging exactly where loading it into memory of the map's size accepts it
+pub judged-iff : (m t : List ℕ) → (judgeAnswer m t .number ≡ 0) ↔ (Accepted m t (memorySize m))
+judged-iff m t = rw (judge-as-load m t (memorySize m) refl) (accepted-iff m t (memorySize m))
 
 -- the answer does not depend on the bytes that memory holds
 pub any-memory : (m t mem other : List ℕ) → length mem ≡ length other → loadAnswer m t (length mem) ≡ loadAnswer m t (length other)

@@ -2,7 +2,7 @@
 use Prim.Native.Nat.{ℕ, _+_}
 use mathlib.Core.List.{List, [], _∷_}
 use mathlib.Core.Path.{_≡_}
-use mathlib.Core.Bool.{true, false}
+use mathlib.Core.Bool.{true, false, not}
 use lib.ListN.{length}
 use lib.Dec.{eqb}
 use Rattle.words.specs.Choice.{if}
@@ -54,20 +54,21 @@ mapRule m fine at (s ∷ ss) =
 -- the answer for a table under a sound map: its form, and then the map rule
 unfoldable pub tableAnswer : List ℕ → List ℕ → Answer
 tableAnswer m t =
-    if (eqb (formOf t .number) 0)
+    if (not (eqb (formOf t .number) 0)) (refused (formOf t .number) (formOf t .place))
     (mapRule m (accepted m t) 4 (reading t .sections))
-    (refused (formOf t .number) (formOf t .place))
 
 -- what judging answers: the map, and then the table
 unfoldable pub judgeAnswer : List ℕ → List ℕ → Answer
-judgeAnswer m t = if (eqb (mapAnswer m .number) 0) (tableAnswer m t) (refused (mapAnswer m .number) (mapAnswer m .place))
+judgeAnswer m t =
+    if (not (eqb (mapAnswer m .number) 0)) (refused (mapAnswer m .number) (mapAnswer m .place))
+    (tableAnswer m t)
 
--- what loading into memory of a length answers: the map, the memory, and then the table
+-- what loading answers, of memory with so many bytes: the map, the memory, and then the table
 unfoldable pub loadAnswer : List ℕ → List ℕ → ℕ → Answer
 loadAnswer m t room =
-    if (eqb (mapAnswer m .number) 0)
-    (if (eqb room (memorySize m)) (tableAnswer m t) (refused MEMORY-LENGTH 0))
-    (refused (mapAnswer m .number) (mapAnswer m .place))
+    if (not (eqb (mapAnswer m .number) 0)) (refused (mapAnswer m .number) (mapAnswer m .place))
+    (if (not (eqb room (memorySize m))) (refused MEMORY-LENGTH 0)
+    (tableAnswer m t))
 
 -- what loading leaves in memory: the sections stored in table order, or what was lent
 unfoldable pub loadMemory : List ℕ → List ℕ → List ℕ → List ℕ

@@ -84,29 +84,6 @@ mapFault m = if (eqb (length m % 12) 0 && leb (length m) 768) (faultFrom m (coun
 abbrev pub SoundMap : List ℕ → Type 0
 SoundMap m = mapFault m ≡ Sound
 
--- ---- memory
-
--- the lengths of the permitted ones of the first n records together
-unfoldable pub sizeBefore : List ℕ → ℕ → ℕ
-sizeBefore m zero = 0
-sizeBefore m (suc i) = sizeBefore m i + if (permitted m i) (lengthAt m i) 0
-
--- the permitted sum: how many bytes lent memory has
-abbrev pub memorySize : List ℕ → ℕ
-memorySize m = sizeBefore m (count m)
-
--- what judging a map answers: the number and place of its fault, or the permitted sum
-abbrev pub mapRefused : ℕ → ℕ → MapAnswer
-mapRefused number place = record { number = number; place = place; bytes = 0 }
-
-unfoldable pub faultAnswer : List ℕ → MapFault → MapAnswer
-faultAnswer m Sound = record { number = 0; place = 0; bytes = memorySize m }
-faultAnswer m Length = mapRefused MAP-LENGTH 0
-faultAnswer m (Record i) = mapRefused MAP-RECORD i
-
-unfoldable pub mapAnswer : List ℕ → MapAnswer
-mapAnswer m = faultAnswer m (mapFault m)
-
 -- ---- open addresses
 
 -- one of the first n records that are of a kind holds the address a
@@ -123,7 +100,16 @@ unfoldable pub closedFrom : List ℕ → ℕ → ℕ → Closed
 closedFrom m zero a = Nowhere
 closedFrom m (suc n) a = if (isOpen m a) (closedFrom m n (suc a)) (At a)
 
--- ---- places
+-- ---- memory and places
+
+-- the lengths of the permitted ones of the first n records together
+unfoldable pub sizeBefore : List ℕ → ℕ → ℕ
+sizeBefore m zero = 0
+sizeBefore m (suc i) = sizeBefore m i + if (permitted m i) (lengthAt m i) 0
+
+-- the permitted sum: how many bytes lent memory has
+abbrev pub memorySize : List ℕ → ℕ
+memorySize m = sizeBefore m (count m)
 
 -- the permitted one of the first n records that holds the address a
 unfoldable pub holder : List ℕ → ℕ → ℕ → Found
@@ -138,3 +124,17 @@ placeIn m a (Index i) = sizeBefore m i + (a - firstAt m i)
 -- where in memory the byte for the address a stands
 unfoldable pub placeOf : List ℕ → ℕ → ℕ
 placeOf m a = placeIn m a (holder m (count m) a)
+
+-- ---- judging a map
+
+-- what judging a map answers: the number and place of its fault, or the permitted sum
+abbrev pub mapRefused : ℕ → ℕ → MapAnswer
+mapRefused number place = record { number = number; place = place; bytes = 0 }
+
+unfoldable pub faultAnswer : List ℕ → MapFault → MapAnswer
+faultAnswer m Sound = record { number = 0; place = 0; bytes = memorySize m }
+faultAnswer m Length = mapRefused MAP-LENGTH 0
+faultAnswer m (Record i) = mapRefused MAP-RECORD i
+
+unfoldable pub mapAnswer : List ℕ → MapAnswer
+mapAnswer m = faultAnswer m (mapFault m)

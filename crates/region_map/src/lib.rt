@@ -230,57 +230,6 @@ pub fn first_fault(map: &[u8]) -> MapFault
     MapFault::Sound
 }
 
-// ---- memory
-
-// The permitted lengths of the first n records together.
-fn size_before(map: &[u8], n: usize) -> usize
-    requires { ⌜ (length (now map) ≤ 768) × (n ≤ count (now map)) ⌝ }
-    ensures { λ r. ⌜ (r ≡ sizeBefore (now (map .entry)) n) × (r ≤ n * 2 ^ 32) ⌝ }
-{
-    let mut sum: usize = 0;
-    let mut i = 0;
-    while i < n {
-        if is_permitted(map, i) {
-            sum += length_at(map, i) as usize;
-        }
-        i += 1;
-    }
-    sum
-}
-
-// How many bytes of memory a map's permitted records take.
-pub fn memory_size(map: &[u8]) -> usize
-    requires { ⌜ length (now map) ≤ 768 ⌝ }
-    ensures { λ r. ⌜ r ≡ memorySize (now (map .entry)) ⌝ }
-{
-    size_before(map, map.len() / 12)
-}
-
-fn refused(number: u32, place: usize) -> MapAnswer
-    ensures { λ r. ⌜ r ≡ mapRefused number place ⌝ }
-{
-    MapAnswer {
-        number: number,
-        place: place,
-        bytes: 0,
-    }
-}
-
-// Judges a map: the number and place of its first fault, or the memory that a caller must lend.
-pub fn judge_map(map: &[u8]) -> MapAnswer
-    ensures { λ r. ⌜ r ≡ mapAnswer (now (map .entry)) ⌝ }
-{
-    match first_fault(map) {
-        MapFault::Length => refused(MAP_LENGTH, 0),
-        MapFault::Record(i) => refused(MAP_RECORD, i),
-        MapFault::Sound => MapAnswer {
-            number: 0,
-            place: 0,
-            bytes: memory_size(map),
-        },
-    }
-}
-
 // ---- open addresses
 
 // Whether record i is permitted and holds the address.
@@ -385,7 +334,31 @@ pub fn first_closed(map: &[u8], address: u32, size: usize) -> Closed
     Closed::Nowhere
 }
 
-// ---- places
+// ---- memory and places
+
+// The permitted lengths of the first n records together.
+fn size_before(map: &[u8], n: usize) -> usize
+    requires { ⌜ (length (now map) ≤ 768) × (n ≤ count (now map)) ⌝ }
+    ensures { λ r. ⌜ (r ≡ sizeBefore (now (map .entry)) n) × (r ≤ n * 2 ^ 32) ⌝ }
+{
+    let mut sum: usize = 0;
+    let mut i = 0;
+    while i < n {
+        if is_permitted(map, i) {
+            sum += length_at(map, i) as usize;
+        }
+        i += 1;
+    }
+    sum
+}
+
+// How many bytes of memory a map's permitted records take.
+pub fn memory_size(map: &[u8]) -> usize
+    requires { ⌜ length (now map) ≤ 768 ⌝ }
+    ensures { λ r. ⌜ r ≡ memorySize (now (map .entry)) ⌝ }
+{
+    size_before(map, map.len() / 12)
+}
 
 // The run of memory from the byte for an open address to the end of the record that holds it.
 pub fn run_at(map: &[u8], address: u64) -> Run
@@ -403,5 +376,32 @@ pub fn run_at(map: &[u8], address: u64) -> Run
             }
         }
         Found::Nothing => Run { place: 0, count: 0 },
+    }
+}
+
+// ---- judging a map
+
+fn refused(number: u32, place: usize) -> MapAnswer
+    ensures { λ r. ⌜ r ≡ mapRefused number place ⌝ }
+{
+    MapAnswer {
+        number: number,
+        place: place,
+        bytes: 0,
+    }
+}
+
+// Judges a map: the number and place of its first fault, or the memory that a caller must lend.
+pub fn judge_map(map: &[u8]) -> MapAnswer
+    ensures { λ r. ⌜ r ≡ mapAnswer (now (map .entry)) ⌝ }
+{
+    match first_fault(map) {
+        MapFault::Length => refused(MAP_LENGTH, 0),
+        MapFault::Record(i) => refused(MAP_RECORD, i),
+        MapFault::Sound => MapAnswer {
+            number: 0,
+            place: 0,
+            bytes: memory_size(map),
+        },
     }
 }

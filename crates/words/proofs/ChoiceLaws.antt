@@ -35,3 +35,8 @@ or-no false b e = (refl, e)
 pub if-split : {A C : Type 0} (b : Bool) (x y z : A) → if b x y ≡ z → (b ≡ true → x ≡ z → C) → (b ≡ false → y ≡ z → C) → C
 if-split true x y z e f g = f refl e
 if-split false x y z e f g = g refl e
+
+-- what both values have, the chosen one has
+pub if-both : {A : Type 0} (P : A → Type 0) (b : Bool) (x y : A) → P x → P y → P (if b x y)
+if-both P true x y p q = p
+if-both P false x y p q = q

@@ -1,6 +1,6 @@
 -- `loader::judge`: each answer is the definition's, by the map's number.
 use mathlib.Core.Path.{_∙_}
-use Rattle.loader.proofs.LoadLaws.{map-refused, map-judged}
+use Rattle.loader.proofs.AnswerLaws.{map-refused, map-judged}
 use borrow.Author.Needs.{needs}
 use Rattle.loader.proofs.judge.Statement.{statement}
 use Rattle.loader.proofs.judge.Tie as tie

@@ -5,7 +5,7 @@ use Rattle.boot_table.specs.Table.{reading}
 use Rattle.boot_table.proofs.FormLaws.{well-long}
 use Rattle.loader.specs.declared.Answer.{Answer}
 use Rattle.loader.specs.Load.{mapRule}
-use Rattle.loader.proofs.LoadLaws.{form-refused, form-judged, form-formed, fine-is}
+use Rattle.loader.proofs.AnswerLaws.{form-refused, form-judged, form-formed, fine-is}
 use borrow.Author.Needs.{needs}
 use Rattle.loader.proofs.judge_table.Statement.{statement}
 use Rattle.loader.proofs.judge_table.Tie as tie

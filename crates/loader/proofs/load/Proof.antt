@@ -6,7 +6,7 @@ use Rattle.region_map.proofs.FaultLaws.{answer-sound}
 use lib.ListN.{length}
 use Rattle.loader.specs.declared.Answer.{Answer}
 use Rattle.loader.specs.Load.{loadAnswer}
-use Rattle.loader.proofs.LoadLaws.{answer-bytes, load-refused, load-sized, load-judged, memory-kept, memory-stored}
+use Rattle.loader.proofs.AnswerLaws.{answer-bytes, load-refused, load-sized, load-judged, memory-kept, memory-stored}
 use borrow.Author.Needs.{needs}
 use Rattle.loader.proofs.load.Statement.{statement}
 use Rattle.loader.proofs.load.Tie as tie

@@ -16,7 +16,7 @@ use Rattle.loader.specs.Store.{storeBytes, storeAll}
 use Rattle.loader.specs.Load.{Opens}
 use Rattle.loader.proofs.RuleLaws.{opens-next}
 use Rattle.loader.proofs.StoreLaws.{lent-body, lent-length, walk-store, walk-stored}
-use Rattle.loader.proofs.LoadLaws.{table-only}
+use Rattle.loader.proofs.AnswerLaws.{table-only}
 use Rattle.loader.proofs.store_sections.Statement.{statement}
 use Rattle.loader.proofs.store_sections.Tie as tie
 

@@ -1,0 +1,95 @@
+-- What judging and loading answer, by the tests that lead to each answer.
+use mathlib.Core.Path.{_≡_, refl, sym, _∙_, ap}
+use mathlib.Core.Logic.{by-cases}
+use mathlib.Core.List.{List}
+use mathlib.Core.Bool.{Bool}
+use Prim.Native.Nat.{ℕ}
+use native.Mathlib.Decide.{ℕ-discrete}
+use borrow.Author.Tests.{eq-eqb, ne-eqb}
+use lib.ListN.{length}
+use Rattle.words.specs.Word.{wordAt}
+use Rattle.words.specs.Refusal.{MEMORY-LENGTH}
+use Rattle.region_map.specs.Map.{mapAnswer, memorySize, isOpen}
+use Rattle.region_map.specs.declared.MapAnswer.{MapAnswer}
+use Rattle.region_map.proofs.FaultLaws.{answer-sound, sound-answer}
+use Rattle.boot_table.specs.Table.{reading}
+use Rattle.boot_table.specs.declared.Form.{Form}
+use Rattle.boot_table.specs.Form.{formOf, WellFormed}
+use Rattle.boot_table.proofs.FormLaws.{form-well, well-form}
+use Rattle.boot_table.specs.Valid.{All}
+use Rattle.loader.specs.declared.Answer.{Answer}
+use Rattle.loader.specs.Store.{storeAll}
+use Rattle.loader.specs.Load.{refused, accepted, mapRule, tableAnswer, judgeAnswer, loadAnswer, loadMemory, Opens}
+use Rattle.loader.proofs.RuleLaws.{opens-rule, rule-opens}
+
+-- ---- each answer, by the tests that lead to it: j is the map's, f the table's form
+
+module _ (m t : List ℕ) where
+  pub map-refused : (j : MapAnswer) → j ≡ mapAnswer m → (j .number ≡ 0 → ⊥) → refused (j .number) (j .place) ≡ judgeAnswer m t
+  unfolding judgeAnswer
+  map-refused j e n = rw (← e) (simp (ne-eqb _ _ n))
+
+  pub map-judged : (j : MapAnswer) → j ≡ mapAnswer m → j .number ≡ 0 → tableAnswer m t ≡ judgeAnswer m t
+  unfolding judgeAnswer
+  map-judged j e z = rw (← e) (simp (eq-eqb _ _ z))
+
+  pub form-refused : (f : Form) → f ≡ formOf t → (f .number ≡ 0 → ⊥) → refused (f .number) (f .place) ≡ tableAnswer m t
+  unfolding tableAnswer
+  form-refused f e n = rw (← e) (simp (ne-eqb _ _ n))
+
+  pub form-judged : (f : Form) → f ≡ formOf t → f .number ≡ 0 → mapRule m (accepted m t) 4 (reading t .sections) ≡ tableAnswer m t
+  unfolding tableAnswer
+  form-judged f e z = rw (← e) (simp (eq-eqb _ _ z))
+
+  module _ (room : ℕ) (j : MapAnswer) (e : j ≡ mapAnswer m) where
+    pub load-refused : (j .number ≡ 0 → ⊥) → refused (j .number) (j .place) ≡ loadAnswer m t room
+    unfolding loadAnswer
+    load-refused n = rw (← e) (simp (ne-eqb _ _ n))
+
+    pub load-sized : j .number ≡ 0 → (room ≡ memorySize m → ⊥) → refused MEMORY-LENGTH 0 ≡ loadAnswer m t room
+    unfolding loadAnswer
+    load-sized z n = rw (← e) (simp (eq-eqb _ _ z, ne-eqb _ _ n))
+
+    pub load-judged : j .number ≡ 0 → room ≡ memorySize m → tableAnswer m t ≡ loadAnswer m t room
+    unfolding loadAnswer
+    load-judged z s = rw (← e) (simp (eq-eqb _ _ z, eq-eqb _ _ s))
+
+-- ---- memory, by the answer r
+
+module _ (m t mem : List ℕ) (r : Answer) (e : r ≡ loadAnswer m t (length mem)) where
+  pub memory-kept : (r .number ≡ 0 → ⊥) → mem ≡ loadMemory m t mem
+  unfolding loadMemory
+  memory-kept n = rw (← e) (simp (ne-eqb _ _ n))
+
+  pub memory-stored : r .number ≡ 0 → storeAll m mem (reading t .sections) ≡ loadMemory m t mem
+  unfolding loadMemory
+  memory-stored z = rw (← e) (simp (eq-eqb _ _ z))
+
+-- ---- the parts of an answer
+
+-- the bytes of a sound map's answer
+pub answer-bytes : (m : List ℕ) (j : MapAnswer) → j ≡ mapAnswer m → j .number ≡ 0 → j .bytes ≡ memorySize m
+answer-bytes m j e z =
+    ap (λ (r : MapAnswer). r .bytes) (e ∙ sound-answer m (answer-sound m (ap (λ (r : MapAnswer). r .number) (sym e) ∙ z)))
+
+-- a form without a fault is a well-formed table's
+pub form-formed : (t : List ℕ) (f : Form) → f ≡ formOf t → f .number ≡ 0 → WellFormed t
+form-formed t f e z = form-well t (ap (λ (r : Form). r .number) (sym e) ∙ z)
+
+-- the answer that is put together from the entry and the form
+pub fine-is : (m t : List ℕ) (f : Form) (entry : ℕ) (opens : Bool) → f ≡ formOf t → f .number ≡ 0 → entry ≡ wordAt t 0 → opens ≡ isOpen m entry
+    → record { number = 0; place = 0; address = 0; entry = entry; entry_open = opens; sections = f .sections; bytes = f .bytes } ≡ accepted m t
+unfolding accepted
+fine-is m t f entry opens e z p q = rw (q, p, e ∙ well-form t (form-formed t f e z))
+
+-- ---- acceptance
+
+-- under a sound map a table is accepted exactly where it is well-formed and keeps the map rule
+pub table-only : (m t : List ℕ) → tableAnswer m t .number ≡ 0 → (WellFormed t) × (All (Opens m) (reading t .sections))
+table-only m t z =
+    by-cases (ℕ-discrete (formOf t .number) 0)
+    (λ f. (form-well t f, rule-opens m (accepted m t) 4 (reading t .sections) (ap (λ (r : Answer). r .number) (form-judged m t (formOf t) refl f) ∙ z)))
+    (λ n. absurd (n (ap (λ (r : Answer). r .number) (form-refused m t (formOf t) refl n) ∙ z)))
+
+pub table-if : (m t : List ℕ) → WellFormed t → All (Opens m) (reading t .sections) → tableAnswer m t ≡ accepted m t
+table-if m t w o = sym (form-judged m t (formOf t) refl (ap (λ (f : Form). f .number) (well-form t w))) ∙ opens-rule m (accepted m t) 4 o
