@@ -1,7 +1,7 @@
 -- The form of a table: as a walk over its steps finds it, and what a well-formed table is.
 use Prim.Native.Nat.{ℕ, suc, _+_, _≤_, _<_}
-use mathlib.Core.Path.{_≡_, ap, _∙_}
-use mathlib.Core.List.{List}
+use mathlib.Core.Path.{_≡_, sym, ap, _∙_}
+use mathlib.Core.List.{List, [], _∷_, _++_}
 use mathlib.Core.Logic.{by-cases}
 use native.Mathlib.Nat.{zero-add, add-zero}
 use native.Mathlib.Omega.{arith}
@@ -15,8 +15,8 @@ use Rattle.boot_table.specs.declared.Step.the-variants.{Section, End, Fa
 use Rattle.boot_table.specs.declared.Form.{Form}
 use Rattle.boot_table.specs.Table.{Sect, Reading, stepAt, sectionAt, before, readOn, reading}
 use Rattle.boot_table.specs.Form.{limit, total, misformed, formed, readForm, formOf, WellFormed}
-use Rattle.boot_table.proofs.StepLaws.{section-of, length-body, fault-number}
-use Rattle.boot_table.proofs.ReadLaws.{read-section, read-end, read-fault, read-room}
+use Rattle.boot_table.proofs.StepLaws.{section-of, end-of, length-body, fault-number}
+use Rattle.boot_table.proofs.ReadLaws.{read-section, read-end, read-fault, read-room, whole-ind}
 
 -- ---- the walk
 
@@ -97,3 +97,22 @@ well-read t w =
 -- a well-formed table has its entry and its zero word
 pub well-long : (t : List ℕ) → WellFormed t → 8 ≤ length t
 well-long t w = read-room t 4 (well-read t w .1)
+
+-- and no more sections and data bytes than bytes
+pub well-few : (t : List ℕ) → WellFormed t → length (reading t .sections) + total (reading t .sections) ≤ length t
+unfolding before total
+well-few t w =
+    let r = well-read t w in
+    let few : 4 + (length (readOn t 4 .sections) + total (readOn t 4 .sections)) ≤ length t =
+    whole-ind t (λ (at : ℕ). at + (length (readOn t at .sections) + total (readOn t at .sections)) ≤ length t)
+    (λ at e. rw (read-end t at e) (omega (arith, end-of t at e)))
+    (λ at address size start next e g on.
+    let i = section-of t at e in
+    rw (read-section t at e) (omega (arith, i .next-is, length-body t at i))) 4 (r .1) in
+    rw (r .0) (omega arith)
+
+-- data bytes of sections in turn are summed
+pub total-append : (xs ys : List Sect) → total (xs ++ ys) ≡ total xs + total ys
+unfolding total
+total-append [] ys = sym (zero-add (total ys))
+total-append (x ∷ xs) ys = rw (total-append xs ys) (omega arith)

@@ -1,5 +1,5 @@
 -- The round trips between a table and its sections.
-use Prim.Native.Nat.{ℕ, zero, suc, _+_, _<_, _^_}
+use Prim.Native.Nat.{ℕ, zero, suc, _+_, _-_, _<_, _^_}
 use mathlib.Core.Path.{_≡_, refl, sym, ap, _∙_}
 use mathlib.Core.List.{List, [], _∷_, _++_, append-assoc, append-nil}
 use mathlib.Core.Bool.{true}
@@ -29,6 +29,15 @@ chunks-append (x ∷ xs) ys = rw (chunks-append xs ys) (simp append-assoc)
 pub length-table : (e : ℕ) (ss : List Sect) → length (table e ss) ≡ 8 + length (chunks ss)
 unfolding table
 length-table e ss = simp (length-append, length-word) (omega arith)
+
+-- sections of two lists with a property have it one after another
+pub all-append : {P : Sect → Type 0} {xs ys : List Sect} → All P xs → All P ys → All P (xs ++ ys)
+all-append none q = q
+all-append (also p ps) q = also p (all-append ps q)
+
+pub all-parts : {P : Sect → Type 0} (xs ys : List Sect) → All P (xs ++ ys) → (All P xs) × (All P ys)
+all-parts [] ys q = (none, q)
+all-parts (x ∷ xs) ys (also p ps) = let r = all-parts xs ys ps in (also p (r .0), r .1)
 
 -- zero bytes are all zero, and bytes that are all zero are so many zeros
 zeros-all : (n : ℕ) → allZero (replicate n 0) ≡ true
@@ -195,15 +204,34 @@ module _ (t : List ℕ) (b : Bytes t) where
       (λ at e. rw (read-end t at e) none)
       (λ at address size start next e g on. rw (read-section t at e) (also (section-valid at (section-of t at e)) on))
 
--- A well-formed table is the table of its entry and of the sections that are read from it.
-pub table-read : (t : List ℕ) → Bytes t → WellFormed t → table (wordAt t 0) (reading t .sections) ≡ t
-unfolding table
-table-read t b w =
-    let r = well-read t w in
-    let e : drop 4 t ≡ chunks (readOn t 4 .sections) ++ wordBytes 0 = read-bytes t b 4 (r .1) in
-    let h : wordBytes (wordAt t 0) ≡ take 4 t = bytes-word t 0 b (omega (arith, well-long t w)) in
-    rw (r .0) (simp append-assoc (rw (← e, h) (take-append-drop 4 t)))
+module _ (t : List ℕ) (b : Bytes t) (w : WellFormed t) where
+  -- the entry word of a well-formed table
+  pub read-head : take 4 t ≡ wordBytes (wordAt t 0)
+  read-head = sym (bytes-word t 0 b (omega (arith, well-long t w)))
 
--- Those sections are valid.
-pub valid-read : (t : List ℕ) → Bytes t → WellFormed t → All Valid (reading t .sections)
-valid-read t b w = let r = well-read t w in rw (r .0) (read-valid t b 4 (r .1))
+  -- its sections and its zero word
+  past-head : drop 4 t ≡ chunks (reading t .sections) ++ wordBytes 0
+  past-head = let r = well-read t w in rw (r .0) (read-bytes t b 4 (r .1))
+
+  -- A well-formed table is the table of its entry and of the sections that are read from it.
+  pub table-read : table (wordAt t 0) (reading t .sections) ≡ t
+  unfolding table
+  table-read = simp append-assoc (rw (← past-head, ← read-head) (take-append-drop 4 t))
+
+  -- Those sections are valid.
+  pub valid-read : All Valid (reading t .sections)
+  valid-read = let r = well-read t w in rw (r .0) (read-valid t b 4 (r .1))
+
+  -- their bytes are all but eight of the table's
+  pub length-read : length t ≡ 8 + length (chunks (reading t .sections))
+  length-read = ap length (sym table-read) ∙ length-table (wordAt t 0) (reading t .sections)
+
+  -- the sections by themselves
+  pub read-middle : take (length t - 8) (drop 4 t) ≡ chunks (reading t .sections)
+  read-middle = ap (take (length t - 8)) past-head ∙ take-at (chunks (reading t .sections)) (wordBytes 0) (length t - 8) (omega (arith, length-read))
+
+  -- the zero word by itself
+  pub read-zero : drop (length t - 4) t ≡ wordBytes 0
+  read-zero =
+      let n : 4 + (length t - 8) ≡ length t - 4 = omega (arith, length-read) in
+      rw (← n, ← (drop-drop (length t - 8) 4 t), past-head) (drop-at (chunks (reading t .sections)) (wordBytes 0) (length t - 8) (omega (arith, length-read)))

@@ -11,7 +11,8 @@ use words::refusal::TABLE_CUT;
 use words::refusal::TABLE_LONG;
 use words::word_at;
 
-const LIMIT: usize = 16_777_216;
+// How many bytes a table has at most.
+pub const LIMIT: usize = 16_777_216;
 
 // What stands at an offset: a section, whose data begins at start and after which next stands; the end; or a fault.
 pub enum Step {

@@ -10,7 +10,7 @@ use native.Mathlib.Omega.{arith}
 use lib.ListN.{length, getD}
 use lib.Dec.{eqb}
 use Rattle.words.specs.Refusal.{MEMORY-LENGTH, NOT-OPEN}
-use Rattle.words.proofs.ChoiceLaws.{if-both}
+use Rattle.words.proofs.ChoiceLaws.{if-cases}
 use Rattle.region_map.specs.declared.Closed.{Closed}
 use Rattle.region_map.specs.declared.Closed.the-variants.{Nowhere, At}
 use Rattle.region_map.specs.Map.{mapAnswer, memorySize, isOpen, closedFrom, placeOf}
@@ -22,7 +22,7 @@ use Rattle.boot_table.specs.Meaning.{lastByte}
 use Rattle.loader.specs.declared.Answer.{Answer}
 use Rattle.loader.specs.Store.{storeAll}
 use Rattle.loader.specs.Load.{refused, onClosed, accepted, mapRule, tableAnswer, judgeAnswer, loadAnswer, loadMemory, Accepted}
-use Rattle.loader.proofs.StoreLaws.{storeAll-at, storeAll-miss}
+use Rattle.loader.proofs.StoreLaws.{length-storeAll, storeAll-at, storeAll-miss}
 use Rattle.loader.proofs.AnswerLaws.{map-refused, map-judged, load-refused, load-sized, load-judged, memory-kept, memory-stored, table-only, table-if}
 
 -- ---- acceptance
@@ -81,15 +81,15 @@ fair-rule m fine at (s ∷ ss) f =
 fair-table : (m t : List ℕ) → Fair (tableAnswer m t)
 unfolding tableAnswer accepted
 fair-table m t =
-    if-both Fair (not (eqb (formOf t .number) 0)) _ _ (fair-refused (formOf t .number) (formOf t .place))
-    (fair-rule m (accepted m t) 4 (reading t .sections) (λ n. absurd (n refl)))
+    if-cases Fair (not (eqb (formOf t .number) 0)) _ _ (λ e. fair-refused (formOf t .number) (formOf t .place))
+    (λ e. fair-rule m (accepted m t) 4 (reading t .sections) (λ n. absurd (n refl)))
 
 -- a refusal has its number and place, and all else zero
 pub refusal-blank : (m t : List ℕ) (room : ℕ) → (loadAnswer m t room .number ≡ 0 → ⊥) → Blank (loadAnswer m t room)
 unfolding loadAnswer
 refusal-blank m t room =
-    if-both Fair (not (eqb (mapAnswer m .number) 0)) _ _ (fair-refused (mapAnswer m .number) (mapAnswer m .place))
-    (if-both Fair (not (eqb room (memorySize m))) _ _ (fair-refused MEMORY-LENGTH 0) (fair-table m t))
+    if-cases Fair (not (eqb (mapAnswer m .number) 0)) _ _ (λ e. fair-refused (mapAnswer m .number) (mapAnswer m .place))
+    (λ e. if-cases Fair (not (eqb room (memorySize m))) _ _ (λ f. fair-refused MEMORY-LENGTH 0) (λ f. fair-table m t))
 
 -- and changes no byte
 pub refusal-keeps : (m t mem : List ℕ) → (loadAnswer m t (length mem) .number ≡ 0 → ⊥) → loadMemory m t mem ≡ mem
@@ -112,7 +112,13 @@ judged-iff m t = rw (judge-as-load m t (memorySize m) refl) (accepted-iff m t (m
 pub any-memory : (m t mem other : List ℕ) → length mem ≡ length other → loadAnswer m t (length mem) ≡ loadAnswer m t (length other)
 any-memory m t mem other e = ap (loadAnswer m t) e
 
--- ---- memory after an accepted load
+-- ---- memory after a load
+
+-- memory keeps its length
+pub length-load : (m t mem : List ℕ) → length (loadMemory m t mem) ≡ length mem
+unfolding loadMemory
+length-load m t mem =
+    if-cases (λ (x : List ℕ). length x ≡ length mem) (eqb (loadAnswer m t (length mem) .number) 0) _ _ (λ e. length-storeAll m mem (reading t .sections)) (λ e. refl)
 
 module _ (m t mem : List ℕ) (a : Accepted m t (length mem)) where
   -- the sections stored in table order

@@ -36,7 +36,7 @@ pub if-split : {A C : Type 0} (b : Bool) (x y z : A) → if b x y ≡ z → (b �
 if-split true x y z e f g = f refl e
 if-split false x y z e f g = g refl e
 
--- what both values have, the chosen one has
-pub if-both : {A : Type 0} (P : A → Type 0) (b : Bool) (x y : A) → P x → P y → P (if b x y)
-if-both P true x y p q = p
-if-both P false x y p q = q
+-- what each value has where the test comes out for it, the chosen one has
+pub if-cases : {A : Type 0} (P : A → Type 0) (b : Bool) (x y : A) → (b ≡ true → P x) → (b ≡ false → P y) → P (if b x y)
+if-cases P true x y f g = f refl
+if-cases P false x y f g = g refl

@@ -1,11 +1,12 @@
 -- Laws of runs that are copied and stored.
 use Prim.Native.Nat.{ℕ, suc, _+_, _-_, _≤_, _<_}
-use mathlib.Core.Path.{_≡_, sym, _∙_}
+use mathlib.Core.Path.{_≡_, sym, ap, _∙_}
 use mathlib.Core.List.{List, [], _++_, append-assoc, append-nil}
+use native.Mathlib.Nat.{zero-add, add-zero, add-assoc}
 use native.Mathlib.Numerals.{add-one}
 use native.Mathlib.Omega.{arith}
-use lib.ListN.{length, getD, take, drop, set, length-drop, drop-of-length-le}
-use lib.Seq.{drop-cons, take-suc, set-at, append-snoc, length-take-le, drop-drop, take-all}
+use lib.ListN.{length, getD, take, drop, set, length-append, length-take, length-drop, take-append-drop, drop-of-length-le}
+use lib.Seq.{drop-cons, take-suc, set-at, append-snoc, length-take-le, take-at, drop-at, drop-drop, take-all}
 use borrow.Rule.Slice.PartMut.{putMid}
 use Rattle.words.specs.Run.{over}
 
@@ -28,3 +29,29 @@ lent-back d xs l to h e =
 -- a part that is lent to the end
 pub part-to-end : (s : List ℕ) (a : ℕ) → take (length s - a) (drop a s) ≡ drop a s
 part-to-end s a = take-all (length s - a) (drop a s) (omega (arith, length-drop a s))
+
+-- no bytes stored change nothing
+pub over-none : (d : List ℕ) (to : ℕ) → over d to [] ≡ d
+unfolding over
+over-none d to = rw (add-zero, append-nil, take-append-drop)
+
+-- bytes stored at the front
+pub over-front : (d xs : List ℕ) → over d 0 xs ≡ xs ++ drop (length xs) d
+unfolding over
+over-front d xs = simp zero-add
+
+module _ (d : List ℕ) (to : ℕ) (xs : List ℕ) (fits : to + length xs ≤ length d) where
+  -- a run that fits keeps the length
+  pub length-over : length (over d to xs) ≡ length d
+  unfolding over
+  length-over = simp (length-append, length-take, length-drop) (omega arith)
+
+  -- a run stored right behind another: both are one run
+  pub over-over : (ys : List ℕ) (n : ℕ) → n ≡ to + length xs → over (over d to xs) n ys ≡ over d to (xs ++ ys)
+  unfolding over
+  over-over ys n e =
+      let l : length (take to d ++ xs) ≡ to + length xs = simp (length-append, length-take) (omega arith) in
+      let p : take (to + length xs) (take to d ++ xs ++ drop (to + length xs) d) ≡ take to d ++ xs = take-at _ _ _ l in
+      let q : drop (to + length xs + length ys) (take to d ++ xs ++ drop (to + length xs) d) ≡ drop (to + length xs + length ys) d =
+      sym (drop-drop (length ys) (to + length xs) _) ∙ ap (drop (length ys)) (drop-at (take to d ++ xs) _ _ l) ∙ drop-drop (length ys) (to + length xs) d in
+      rw (e, p, q) (simp (append-assoc, length-append, add-assoc))

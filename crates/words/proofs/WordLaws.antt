@@ -1,7 +1,7 @@
 -- Laws of words and pads: what is written is read back, and what is read is written back.
 use mathlib.Core.Path.{_≡_, refl}
 use mathlib.Core.List.{List, [], _∷_, _++_}
-use Prim.Native.Nat.{ℕ, _+_, _-_, _*_, _/_, _%_, _≤_, _<_, _^_}
+use Prim.Native.Nat.{ℕ, zero, suc, _+_, _-_, _*_, _/_, _%_, _≤_, _<_, _^_}
 use native.Mathlib.Omega.{arith}
 use native.Mathlib.Nat.{add-zero, add-assoc, mod-eq-of-lt, div-div-eq-div-mul}
 use lib.ListN.{length, take, drop, length-drop}
@@ -54,8 +54,20 @@ bytes-word-front (x ∷ y ∷ []) b h = absurd (omega arith)
 bytes-word-front (x ∷ y ∷ z ∷ []) b h = absurd (omega arith)
 bytes-word-front (x ∷ y ∷ z ∷ w ∷ t) b h = digits x y z w (b 0) (b 1) (b 2) (b 3)
 
+-- what is cut out of bytes, or put together from them, is bytes
 pub bytes-drop : (t : List ℕ) (i : ℕ) → Bytes t → Bytes (drop i t)
 bytes-drop t i b j = rw getD-drop (b (i + j))
+
+pub bytes-take : (t : List ℕ) (n : ℕ) → Bytes t → Bytes (take n t)
+bytes-take t zero b i = omega arith
+bytes-take [] (suc n) b i = b i
+bytes-take (x ∷ t) (suc n) b zero = b 0
+bytes-take (x ∷ t) (suc n) b (suc i) = bytes-take t n (λ j. b (suc j)) i
+
+pub bytes-append : (s t : List ℕ) → Bytes s → Bytes t → Bytes (s ++ t)
+bytes-append [] t p q i = q i
+bytes-append (x ∷ s) t p q zero = p 0
+bytes-append (x ∷ s) t p q (suc i) = bytes-append s t (λ j. p (suc j)) q i
 
 -- a word that is read is written back
 pub bytes-word : (t : List ℕ) (i : ℕ) → Bytes t → i + 4 ≤ length t → wordBytes (wordAt t i) ≡ take 4 (drop i t)

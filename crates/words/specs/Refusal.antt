@@ -36,3 +36,11 @@ PAST-TOP = 8
 -- an address is not open
 abbrev pub NOT-OPEN : ℕ
 NOT-OPEN = 9
+
+-- the join is over the table's limit
+abbrev pub JOIN-LONG : ℕ
+JOIN-LONG = 10
+
+-- the output is shorter than the result
+abbrev pub OUTPUT-SHORT : ℕ
+OUTPUT-SHORT = 11

@@ -1,0 +1,51 @@
+-- Laws of writing the join: sections copied one after another are one run, and so are the four parts of the join.
+use Prim.Native.Nat.{ℕ, _+_, _-_, _≤_}
+use mathlib.Core.Path.{_≡_, sym, ap, _∙_}
+use mathlib.Core.List.{List, _++_}
+use native.Mathlib.Omega.{arith}
+use lib.ListN.{length, take, drop, length-append, length-drop}
+use lib.Seq.{length-take-le, take-add, drop-drop}
+use Rattle.words.specs.Word.{Bytes}
+use Rattle.words.specs.Run.{over}
+use Rattle.words.proofs.RunLaws.{over-front, over-over}
+use Rattle.boot_table.specs.Form.{WellFormed}
+use Rattle.boot_table.proofs.FormLaws.{well-long}
+use Rattle.joiner.specs.Join.{joined, joinedLength}
+use Rattle.joiner.proofs.JoinLaws.{length-joined, joined-bytes}
+
+-- two parts of a table, one right behind the other
+part-part : (t : List ℕ) (at next : ℕ) → 4 ≤ at → at ≤ next → take (at - 4) (drop 4 t) ++ take (next - at) (drop at t) ≡ take (next - 4) (drop 4 t)
+part-part t at next h k =
+    let n : 4 + (at - 4) ≡ at = omega arith in
+    let m : next - 4 ≡ (at - 4) + (next - at) = omega arith in
+    sym (rw (m, take-add (at - 4) (next - at) (drop 4 t), drop-drop (at - 4) 4 t, n))
+
+-- a turn copies the section from at to next behind those before it
+pub copy-section : (t d : List ℕ) (from at next to : ℕ) → 4 ≤ at → at ≤ next → next ≤ length t → to + 4 ≡ from + at → to ≤ length d
+    → over (over d from (take (at - 4) (drop 4 t))) to (take (next - at) (drop at t)) ≡ over d from (take (next - 4) (drop 4 t))
+copy-section t d from at next to h k within place fits =
+    let n : length (take (at - 4) (drop 4 t)) ≡ at - 4 = length-take-le (at - 4) (drop 4 t) (simp length-drop (omega arith)) in
+    over-over d from (take (at - 4) (drop 4 t)) (omega arith) (take (next - at) (drop at t)) to (omega arith) ∙ ap (over d from) (part-part t at next h k)
+
+-- the entry word of b, the sections of a and of b, and the zero word of b, written one after another, are the join
+pub parts-joined : (a b d : List ℕ) → Bytes a → Bytes b → WellFormed a → WellFormed b → joinedLength a b ≤ length d → (middle end : ℕ) → middle + 8 ≡ 4 + length a → end + 8 ≡ middle + length b
+    → over (over (over (over d 0 (take 4 b)) 4 (take (length a - 8) (drop 4 a))) middle (take (length b - 8) (drop 4 b))) end (drop (length b - 4) b)
+    ≡ joined a b ++ drop (joinedLength a b) d
+unfolding joinedLength
+parts-joined a b d p q v w fits middle end em ee =
+    let la = well-long a v in
+    let lb = well-long b w in
+    let h = take 4 b in
+    let x = take (length a - 8) (drop 4 a) in
+    let y = take (length b - 8) (drop 4 b) in
+    let z = drop (length b - 4) b in
+    let lh : length h ≡ 4 = length-take-le 4 b (omega arith) in
+    let lx : length x ≡ length a - 8 = length-take-le (length a - 8) (drop 4 a) (simp length-drop (omega arith)) in
+    let ly : length y ≡ length b - 8 = length-take-le (length b - 8) (drop 4 b) (simp length-drop (omega arith)) in
+    let l2 = length-append h x in
+    let l3 = length-append (h ++ x) y in
+    let s1 : over (over d 0 h) 4 x ≡ over d 0 (h ++ x) = over-over d 0 h (omega arith) x 4 (omega arith) in
+    let s2 : over (over d 0 (h ++ x)) middle y ≡ over d 0 (h ++ x ++ y) = over-over d 0 (h ++ x) (omega arith) y middle (omega arith) in
+    let s3 : over (over d 0 (h ++ x ++ y)) end z ≡ over d 0 (h ++ x ++ y ++ z) = over-over d 0 (h ++ x ++ y) (omega arith) z end (omega arith) in
+    ap (λ (o : List ℕ). over (over o middle y) end z) s1 ∙ ap (λ (o : List ℕ). over o end z) s2 ∙ s3 ∙ ap (over d 0) (sym (joined-bytes a b p q v w))
+    ∙ over-front d (joined a b) ∙ ap (λ (n : ℕ). joined a b ++ drop n d) (length-joined a b p q v w)

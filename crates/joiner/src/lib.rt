@@ -1,0 +1,107 @@
+// Joining two boot tables into a lent output.
+ghost use mathlib.Core.List.{_++_};
+ghost use mathlib.Core.Path.{_≡_};
+ghost use Prim.Native.Nat.{_+_, _-_, _≤_};
+ghost use lib.ListN.{length, take, drop};
+ghost use Rattle.words.specs.Run.{over};
+ghost use Rattle.boot_table.specs.Form.{WellFormed};
+ghost use Rattle.joiner.specs.Join.{joined, joinedLength, joinRefused, joinAnswer, joinOutput};
+use boot_table::LIMIT;
+use boot_table::Step;
+use boot_table::form_of;
+use boot_table::step_at;
+use words::copy;
+use words::refusal::JOIN_LONG;
+use words::refusal::OUTPUT_SHORT;
+
+// What joining answers. The number is 0 where the output holds the join, and length and sections are then the join's;
+// a refusal has its number and place and the table that it speaks of, 1 or 2, or 0 for the join itself.
+pub struct Joined {
+    pub number: u32,
+    pub place: usize,
+    pub table: u32,
+    pub length: usize,
+    pub sections: usize,
+}
+
+fn refused(number: u32, place: usize, table: u32) -> Joined
+    ensures { λ r. ⌜ r ≡ joinRefused number place table ⌝ }
+{
+    Joined {
+        number: number,
+        place: place,
+        table: table,
+        length: 0,
+        sections: 0,
+    }
+}
+
+// Copies the sections of a well-formed table, as they stand, into the output from an offset on; answers the offset after them.
+fn copy_sections(table: &[u8], output: &mut [u8], from: usize) -> usize
+    requires { ⌜ WellFormed (now table) ⌝ }
+    requires { ⌜ from + length (now table) ≤ length (now output) + 8 ⌝ }
+    ensures { λ r. ⌜ r + 8 ≡ from + length (now (table .entry)) ⌝ }
+    ensures { λ _. ⌜ now (output .exit) ≡ over (now (output .entry)) from (take (length (now (table .entry)) - 8) (drop 4 (now (table .entry)))) ⌝ }
+{
+    let mut at: usize = 4;
+    let mut to = from;
+    loop {
+        let step = step_at(table, at);
+        let Step::Section {
+            address: _,
+            size: _,
+            start: _,
+            next,
+        } = step
+        else {
+            return to;
+        };
+        copy(&table[at..next], &mut output[to..]);
+        to += next - at;
+        at = next;
+    }
+}
+
+// Writes the join of two well-formed tables to the front of an output that has room for it.
+fn write_join(first: &[u8], second: &[u8], output: &mut [u8])
+    requires { ⌜ WellFormed (now first) × WellFormed (now second) ⌝ }
+    requires { ⌜ joinedLength (now first) (now second) ≤ length (now output) ⌝ }
+    ensures { λ _. ⌜ now (output .exit) ≡ joined (now (first .entry)) (now (second .entry)) ++ drop (joinedLength (now (first .entry)) (now (second .entry))) (now (output .entry)) ⌝ }
+{
+    copy(&second[0..4], output);
+    let middle = copy_sections(first, output, 4);
+    let end = copy_sections(second, output, middle);
+    let zero = second.len() - 4;
+    copy(&second[zero..], &mut output[end..]);
+}
+
+// Joins two tables into the output: the second's entry, the first's sections, the second's sections, zero word.
+pub fn join(first: &[u8], second: &[u8], output: &mut [u8]) -> Joined
+    ensures { λ r. ⌜ r ≡ joinAnswer (now (first .entry)) (now (second .entry)) (length (now (output .entry))) ⌝ }
+    ensures { λ _. ⌜ now (output .exit) ≡ joinOutput (now (first .entry)) (now (second .entry)) (now (output .entry)) ⌝ }
+{
+    let a = form_of(first);
+    if a.number != 0 {
+        return refused(a.number, a.place, 1);
+    }
+    let b = form_of(second);
+    if b.number != 0 {
+        return refused(b.number, b.place, 2);
+    }
+    let size = first.len() + second.len() - 8;
+    if LIMIT < size {
+        return refused(JOIN_LONG, 0, 0);
+    }
+    if output.len() < size {
+        return refused(OUTPUT_SHORT, 0, 0);
+    }
+    let sections = a.sections + b.sections;
+    write_join(first, second, output);
+    Joined {
+        number: 0,
+        place: 0,
+        table: 0,
+        length: size,
+        sections: sections,
+    }
+}

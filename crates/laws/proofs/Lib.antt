@@ -1,0 +1,5 @@
+pub mod JoinProof
+pub mod SwapProof
+pub mod Theorem
+pub mod CallLaws
+pub mod CardsProof
