@@ -8,16 +8,28 @@ use Rattle.loader.specs.declared.Answer.{Answer}
 use Rattle.loader.specs.Load.{loadAnswer, loadMemory}
 use Rattle.joiner.specs.declared.Joined.{Joined}
 use Rattle.joiner.specs.Join.{joinAnswer, joinOutput}
+use Rattle.boot_config.specs.declared.Configured.{Configured}
+use Rattle.boot_config.specs.Config.{configAnswer, configValues}
+use Rattle.boot_strap.specs.declared.Manner.{Manner}
+use Rattle.boot_strap.specs.declared.Manner.the-variants.{Strict, Lenient}
+use Rattle.boot_strap.specs.declared.Strap.the-variants.{Emif16, Spi}
+use Rattle.boot_strap.specs.declared.StrapAnswer.{StrapAnswer}
+use Rattle.boot_strap.specs.declared.StrapAnswer.the-variants.{Decoded, Refused}
+use Rattle.boot_strap.specs.Strap.{decodeAs}
 
--- a card is a call, with the whole answer and every byte of the lent buffer afterwards
+-- a card is a call, with the whole answer and all that the lent buffer holds afterwards
 pub data Card : Type 0 where
   Load : (map table memory : List ℕ) → Answer → List ℕ → Card
   Join : (first second output : List ℕ) → Joined → List ℕ → Card
+  Configure : (table addresses values : List ℕ) → Configured → List ℕ → Card
+  Decode : Manner → ℕ → StrapAnswer → Card
 
 -- what a card claims
 abbrev pub Holds : Card → Type 0
 Holds (Load map table memory answer after) = (loadAnswer map table (length memory) ≡ answer) × (loadMemory map table memory ≡ after)
 Holds (Join first second output answer after) = (joinAnswer first second (length output) ≡ answer) × (joinOutput first second output ≡ after)
+Holds (Configure table addresses values answer after) = (configAnswer table addresses values ≡ answer) × (configValues table addresses values ≡ after)
+Holds (Decode manner value answer) = decodeAs manner value ≡ answer
 
 -- every card of a list holds
 abbrev pub AllHold : List Card → Type 0
@@ -35,6 +47,9 @@ refuse number place address = record { number = number; place = place; address =
 
 abbrev pub success : ℕ → ℕ → Joined
 success n sections = record { number = 0; place = 0; table = 0; length = n; sections = sections }
+
+abbrev pub configured : ℕ → ℕ → Configured
+configured entries bits = record { number = 0; place = 0; entries = entries; bits = bits }
 
 -- ---- the map, the tables and the memory of the cards
 
@@ -105,9 +120,18 @@ abbrev pub pastTopTable : List ℕ
 pastTopTable =
     0x00 ∷ 0x80 ∷ 0x00 ∷ 0x00 ∷ 0x00 ∷ 0x00 ∷ 0x00 ∷ 0x02 ∷ 0xFF ∷ 0xFF ∷ 0xFF ∷ 0xFF ∷ 0xC1 ∷ 0xC2 ∷ 0x00 ∷ 0x00 ∷ 0x00 ∷ 0x00 ∷ 0x00 ∷ 0x00 ∷ []
 
+-- one entry that sets 0x30 and clears 0x03, and one that sets and clears bit 0
+abbrev pub setAndClear : List ℕ
+setAndClear =
+    0x02 ∷ 0x62 ∷ 0x00 ∷ 0x00 ∷ 0x00 ∷ 0x00 ∷ 0x00 ∷ 0x30 ∷ 0x00 ∷ 0x00 ∷ 0x00 ∷ 0x03 ∷ 0x00 ∷ 0x00 ∷ 0x00 ∷ 0x00 ∷ 0x00 ∷ 0x00 ∷ 0x00 ∷ 0x00 ∷ 0x00 ∷ 0x00 ∷ 0x00 ∷ 0x00 ∷ []
+
+abbrev pub bothMasks : List ℕ
+bothMasks =
+    0x02 ∷ 0x62 ∷ 0x00 ∷ 0x00 ∷ 0x00 ∷ 0x00 ∷ 0x00 ∷ 0x01 ∷ 0x00 ∷ 0x00 ∷ 0x00 ∷ 0x01 ∷ 0x00 ∷ 0x00 ∷ 0x00 ∷ 0x00 ∷ 0x00 ∷ 0x00 ∷ 0x00 ∷ 0x00 ∷ 0x00 ∷ 0x00 ∷ 0x00 ∷ 0x00 ∷ []
+
 -- ---- the cards
 
--- cards 1 to 8 of document 01
+-- the twelve cards of document 01
 abbrev pub cards : List Card
 cards =
     -- 1: P under M
@@ -137,4 +161,20 @@ cards =
     -- 8: size 1 at 0xFFFFFFFF, and size 2
     Load mapM topTable memory (refuse 9 4 0xFFFFFFFF) memory ∷
     Load mapM pastTopTable memory (refuse 8 4 0) memory ∷
+    -- 9: register 0x0000000F, set 0x30, clear 0x03
+    Configure setAndClear (0x02620000 ∷ []) (0x0000000F ∷ []) (configured 1 4) (0x0000003C ∷ []) ∷
+    -- 10: the same register, set 1, clear 1
+    Configure bothMasks (0x02620000 ∷ []) (0x0000000F ∷ []) (configured 1 0) (0x0000000F ∷ []) ∷
+    -- 11: strap 7878
+    Decode Strict 7878 (Decoded (Spi 3 true true 1 2 0)) ∷
+    Decode Lenient 7878 (Decoded (Spi 3 true true 1 2 0)) ∷
+    -- 12: straps 160, 416, 64 and 8192
+    Decode Strict 160 (Decoded (Emif16 0 true 0)) ∷
+    Decode Lenient 160 (Decoded (Emif16 0 true 0)) ∷
+    Decode Lenient 416 (Decoded (Emif16 0 true 0)) ∷
+    Decode Strict 416 (Refused 19) ∷
+    Decode Strict 64 (Refused 19) ∷
+    Decode Lenient 64 (Refused 19) ∷
+    Decode Strict 8192 (Refused 18) ∷
+    Decode Lenient 8192 (Refused 18) ∷
     []

@@ -10,7 +10,7 @@ use native.Mathlib.Omega.{arith}
 use lib.ListN.{length, getD}
 use lib.Dec.{eqb}
 use Rattle.words.specs.Refusal.{MEMORY-LENGTH, NOT-OPEN}
-use Rattle.words.proofs.ChoiceLaws.{if-cases}
+use Rattle.words.proofs.ChoiceLaws.{if-both}
 use Rattle.region_map.specs.declared.Closed.{Closed}
 use Rattle.region_map.specs.declared.Closed.the-variants.{Nowhere, At}
 use Rattle.region_map.specs.Map.{mapAnswer, memorySize, isOpen, closedFrom, placeOf}
@@ -81,15 +81,15 @@ fair-rule m fine at (s ∷ ss) f =
 fair-table : (m t : List ℕ) → Fair (tableAnswer m t)
 unfolding tableAnswer accepted
 fair-table m t =
-    if-cases Fair (not (eqb (formOf t .number) 0)) _ _ (λ e. fair-refused (formOf t .number) (formOf t .place))
-    (λ e. fair-rule m (accepted m t) 4 (reading t .sections) (λ n. absurd (n refl)))
+    if-both Fair (not (eqb (formOf t .number) 0)) _ _ (fair-refused (formOf t .number) (formOf t .place))
+    (fair-rule m (accepted m t) 4 (reading t .sections) (λ n. absurd (n refl)))
 
 -- a refusal has its number and place, and all else zero
 pub refusal-blank : (m t : List ℕ) (room : ℕ) → (loadAnswer m t room .number ≡ 0 → ⊥) → Blank (loadAnswer m t room)
 unfolding loadAnswer
 refusal-blank m t room =
-    if-cases Fair (not (eqb (mapAnswer m .number) 0)) _ _ (λ e. fair-refused (mapAnswer m .number) (mapAnswer m .place))
-    (λ e. if-cases Fair (not (eqb room (memorySize m))) _ _ (λ f. fair-refused MEMORY-LENGTH 0) (λ f. fair-table m t))
+    if-both Fair (not (eqb (mapAnswer m .number) 0)) _ _ (fair-refused (mapAnswer m .number) (mapAnswer m .place))
+    (if-both Fair (not (eqb room (memorySize m))) _ _ (fair-refused MEMORY-LENGTH 0) (fair-table m t))
 
 -- and changes no byte
 pub refusal-keeps : (m t mem : List ℕ) → (loadAnswer m t (length mem) .number ≡ 0 → ⊥) → loadMemory m t mem ≡ mem
@@ -118,7 +118,7 @@ any-memory m t mem other e = ap (loadAnswer m t) e
 pub length-load : (m t mem : List ℕ) → length (loadMemory m t mem) ≡ length mem
 unfolding loadMemory
 length-load m t mem =
-    if-cases (λ (x : List ℕ). length x ≡ length mem) (eqb (loadAnswer m t (length mem) .number) 0) _ _ (λ e. length-storeAll m mem (reading t .sections)) (λ e. refl)
+    if-both (λ (x : List ℕ). length x ≡ length mem) (eqb (loadAnswer m t (length mem) .number) 0) _ _ (length-storeAll m mem (reading t .sections)) refl
 
 module _ (m t mem : List ℕ) (a : Accepted m t (length mem)) where
   -- the sections stored in table order

@@ -40,3 +40,7 @@ if-split false x y z e f g = g refl e
 pub if-cases : {A : Type 0} (P : A → Type 0) (b : Bool) (x y : A) → (b ≡ true → P x) → (b ≡ false → P y) → P (if b x y)
 if-cases P true x y f g = f refl
 if-cases P false x y f g = g refl
+
+-- what both values have, the chosen one has
+pub if-both : {A : Type 0} (P : A → Type 0) (b : Bool) (x y : A) → P x → P y → P (if b x y)
+if-both P b x y p q = if-cases P b x y (λ e. p) (λ e. q)

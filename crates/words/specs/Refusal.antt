@@ -44,3 +44,35 @@ JOIN-LONG = 10
 -- the output is shorter than the result
 abbrev pub OUTPUT-SHORT : ℕ
 OUTPUT-SHORT = 11
+
+-- the register lists are unfit
+abbrev pub REGISTERS-UNFIT : ℕ
+REGISTERS-UNFIT = 12
+
+-- the configuration table is over its limit
+abbrev pub CONFIG-LONG : ℕ
+CONFIG-LONG = 13
+
+-- the configuration table ends before three zero words
+abbrev pub CONFIG-CUT : ℕ
+CONFIG-CUT = 14
+
+-- bytes stand after the end entry
+abbrev pub CONFIG-AFTER : ℕ
+CONFIG-AFTER = 15
+
+-- a register is not in the list
+abbrev pub NO-REGISTER : ℕ
+NO-REGISTER = 16
+
+-- a branch is asked for
+abbrev pub BRANCH : ℕ
+BRANCH = 17
+
+-- the strap value is over 8,191
+abbrev pub STRAP-LONG : ℕ
+STRAP-LONG = 18
+
+-- the strap value is reserved
+abbrev pub STRAP-RESERVED : ℕ
+STRAP-RESERVED = 19

@@ -32,3 +32,27 @@ pub const JOIN_LONG: u32 = 10;
 
 // The output is shorter than the result.
 pub const OUTPUT_SHORT: u32 = 11;
+
+// The register lists are unfit.
+pub const REGISTERS_UNFIT: u32 = 12;
+
+// The configuration table is over its limit.
+pub const CONFIG_LONG: u32 = 13;
+
+// The configuration table ends before three zero words.
+pub const CONFIG_CUT: u32 = 14;
+
+// Bytes stand after the end entry.
+pub const CONFIG_AFTER: u32 = 15;
+
+// A register is not in the list.
+pub const NO_REGISTER: u32 = 16;
+
+// A branch is asked for.
+pub const BRANCH: u32 = 17;
+
+// The strap value is over 8,191.
+pub const STRAP_LONG: u32 = 18;
+
+// The strap value is reserved.
+pub const STRAP_RESERVED: u32 = 19;

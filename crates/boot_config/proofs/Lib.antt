@@ -1,0 +1,5 @@
+pub mod RegisterLaws
+pub mod BitLaws
+pub mod EntryLaws
+pub mod RunLaws
+pub mod AnswerLaws

@@ -1,0 +1,37 @@
+-- `boot_strap::label` meets its contract.
+use mathlib.Core.Path.{sym, _∙_}
+use Rattle.boot_strap.specs.Strap.{labelOf, labelAnswer}
+use borrow.Author.Needs.{needs}
+use Rattle.boot_strap.proofs.label.Statement.{statement}
+use Rattle.boot_strap.proofs.label.Tie as tie
+
+decode-requires : tie.Need-decode-requires
+decode-requires c κs = search needs
+
+enum-known-number : tie.Need-enum-known-number
+enum-known-number c = search needs
+
+enum-known-strap : tie.Need-enum-known-strap
+enum-known-strap c = search needs
+
+label-of-requires : tie.Need-label-of-requires
+label-of-requires c κs = search needs
+
+returns : tie.Need-returns
+unfolding labelOf labelAnswer
+returns c = rw (sym (c .before .before .before .decode .ensures) ∙ c .before .number .given .1)
+
+returns-2 : tie.Need-returns-2
+unfolding labelOf labelAnswer
+returns-2 c = rw (sym (c .before .before .before .before .decode .ensures) ∙ c .before .before .strap .given .1, c .label-of .ensures)
+
+pub label-spec : {M : Type 1} → statement M
+label-spec =
+    tie.close
+    (tie.spec
+    decode-requires
+    enum-known-number
+    enum-known-strap
+    label-of-requires
+    returns
+    returns-2)
