@@ -82,7 +82,7 @@ decodeShort v = decodeAs Lenient v
 
 -- ---- the kinds as numbers
 
--- the kind's place in the paper's table, 0 for sleep to 7 for SPI
+-- the kind's place in document 01's table of kinds, 0 for sleep to 7 for SPI
 unfoldable pub kindOf : Strap → ℕ
 kindOf (Sleep sr wait clock) = 0
 kindOf (Emif16 sr wait clock) = 1
@@ -130,7 +130,7 @@ sameOf (Decoded s) (Decoded t) = record { number = 0; place = 0; same = equalVal
 unfoldable pub sameAnswer : ℕ → ℕ → SameAnswer
 sameAnswer v w = sameOf (decodeShort v) (decodeShort w)
 
--- the board label's number: the kind's place in the paper's table
+-- the board label's number: the kind's place in that table
 unfoldable pub labelOf : StrapAnswer → LabelAnswer
 labelOf (Refused number) = record { number = number; place = 0; label = 0 }
 labelOf (Decoded s) = record { number = 0; place = 0; label = kindOf s }
