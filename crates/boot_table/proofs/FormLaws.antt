@@ -1,22 +1,24 @@
 -- The form of a table: as a walk over its steps finds it, and what a well-formed table is.
-use Prim.Native.Nat.{ℕ, suc, _+_, _≤_, _<_}
+use Prim.Native.Nat.{ℕ, suc, _+_, _*_, _≤_, _<_}
 use mathlib.Core.Path.{_≡_, sym, ap, _∙_}
 use mathlib.Core.List.{List, [], _∷_, _++_}
 use mathlib.Core.Logic.{by-cases}
 use native.Mathlib.Nat.{zero-add, add-zero}
 use native.Mathlib.Omega.{arith}
 use native.Mathlib.Decide.{decLe, ℕ-discrete}
-use borrow.Author.Tests.{eq-eqb, ne-eqb, lt-ltb, le-ltb}
+use borrow.Author.Tests.{eq-eqb, ne-eqb, lt-ltb, le-ltb, ltb-false}
 use lib.ListN.{length}
-use lib.Dec.{eqb}
+use lib.Dec.{ltb, eqb}
 use Rattle.words.specs.Choice.{if}
 use Rattle.words.specs.Refusal.{TABLE-LONG, TABLE-CUT}
+use Rattle.words.proofs.ChoiceLaws.{if-cases}
+use Rattle.words.proofs.WordLaws.{pad-aligns}
 use Rattle.boot_table.specs.declared.Step.the-variants.{Section, End, Fault}
 use Rattle.boot_table.specs.declared.Form.{Form}
 use Rattle.boot_table.specs.Table.{Sect, Reading, stepAt, sectionAt, before, readOn, reading}
 use Rattle.boot_table.specs.Form.{limit, total, misformed, formed, readForm, formOf, WellFormed}
 use Rattle.boot_table.proofs.StepLaws.{section-of, end-of, length-body, fault-number}
-use Rattle.boot_table.proofs.ReadLaws.{read-section, read-end, read-fault, read-room, whole-ind}
+use Rattle.boot_table.proofs.ReadLaws.{read-section, read-end, read-fault, read-placed, read-room, whole-ind}
 
 -- ---- the walk
 
@@ -110,6 +112,31 @@ well-few t w =
     let i = section-of t at e in
     rw (read-section t at e) (omega (arith, i .next-is, length-body t at i))) 4 (r .1) in
     rw (r .0) (omega arith)
+
+-- each section takes at least 12 bytes
+pub well-sections : (t : List ℕ) → WellFormed t → 8 + 12 * length (reading t .sections) ≤ length t
+unfolding before
+well-sections t w =
+    let r = well-read t w in
+    let few : 8 + 12 * length (readOn t 4 .sections) ≤ length t =
+    whole-ind t (λ (at : ℕ). at + 4 + 12 * length (readOn t at .sections) ≤ length t)
+    (λ at e. rw (read-end t at e) (omega (arith, end-of t at e)))
+    (λ at address size start next e g on.
+    let i = section-of t at e in
+    rw (read-section t at e) (omega (arith, i .next-is, i .some, pad-aligns size))) 4 (r .1) in
+    rw (r .0) few
+
+-- a table's number is at most 8, and its place within the table
+pub form-placed : (t : List ℕ) → (formOf t .number ≤ 8) × (formOf t .place ≤ length t)
+unfolding formOf readForm reading
+form-placed t =
+    if-cases placed (ltb limit (length t)) _ _ (λ e. (omega arith, omega arith))
+    (λ e. if-cases placed (eqb (reading t .fault) 0) _ _ (λ f. (omega arith, omega arith))
+    (λ f. if-cases (λ (r : Reading). (r .fault ≤ 8) × (r .place ≤ length t)) (ltb (length t) 4) _ _ (λ g. (omega arith, omega arith))
+    (λ g. read-placed t 4 (ltb-false _ _ g))))
+  where
+    placed : Form → Type 0
+    placed f = (f .number ≤ 8) × (f .place ≤ length t)
 
 -- data bytes of sections in turn are summed
 pub total-append : (xs ys : List Sect) → total (xs ++ ys) ≡ total xs + total ys

@@ -12,7 +12,7 @@ use Rattle.boot_table.proofs.Step.{the-type}
 use Rattle.boot_table.specs.declared.Step.{Step}
 use Rattle.boot_table.specs.declared.Step.the-variants.{Section, End, Fault}
 use Rattle.boot_table.specs.Table.{Reading, stop, stepAt, sectionAt, before, onStep, readFrom, readOn}
-use Rattle.boot_table.proofs.StepLaws.{step-cut, section-of, fault-number}
+use Rattle.boot_table.proofs.StepLaws.{step-cut, section-of, fault-of, fault-number}
 
 -- ---- how many steps are allowed does not matter where they are enough
 
@@ -36,6 +36,26 @@ enough (suc n) (suc m) t at p q = same-step (readFrom n t) (readFrom m t) t at (
 read-step : (t : List ℕ) (at : ℕ) → readOn t at ≡ onStep (readOn t) t at (stepAt t at)
 unfolding readOn readFrom
 read-step t at = enough (length t) (suc (length t)) t at (omega arith) (omega arith)
+
+-- a fault that is read has a number up to 8, and a place within the table
+Placed : List ℕ → Reading → Type 0
+Placed t r = (r .fault ≤ 8) × (r .place ≤ length t)
+
+step-placed : (f : ℕ → Reading) (t : List ℕ) (at : ℕ) (s : Step) → stepAt t at ≡ s → at ≤ length t
+    → ((next : ℕ) → next ≤ length t → Placed t (f next)) → Placed t (onStep f t at s)
+unfolding onStep before Placed
+step-placed f t at (Section address size start next) e h on = on next (section-of t at e .within)
+step-placed f t at End e h on = (omega arith, omega arith)
+step-placed f t at (Fault number place) e h on = let i = fault-of t at e in (i .1, i .2 h)
+
+from-placed : (n : ℕ) (t : List ℕ) (at : ℕ) → at ≤ length t → Placed t (readFrom n t at)
+unfolding readFrom Placed
+from-placed zero t at h = (omega arith, h)
+from-placed (suc n) t at h = step-placed (readFrom n t) t at (stepAt t at) refl h (from-placed n t)
+
+pub read-placed : (t : List ℕ) (at : ℕ) → at ≤ length t → (readOn t at .fault ≤ 8) × (readOn t at .place ≤ length t)
+unfolding readOn Placed
+read-placed t at h = from-placed (length t) t at h
 
 -- ---- reading on, by what the step finds
 

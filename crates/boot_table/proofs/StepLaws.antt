@@ -6,7 +6,7 @@ use mathlib.Core.Bool.{Bool, true, false, not}
 use mathlib.Core.Logic.{⊎-elim}
 use native.Mathlib.Numerals.{add-one}
 use native.Mathlib.Omega.{arith}
-use borrow.Author.Tests.{eq-eqb, ne-eqb, lt-ltb, le-ltb, ltb-false, eqb-true, eqb-false, not-false}
+use borrow.Author.Tests.{eq-eqb, ne-eqb, lt-ltb, le-ltb, ltb-true, ltb-false, eqb-true, eqb-false, not-false}
 use lib.ListN.{length, getD, take, drop, length-append, length-drop}
 use lib.Seq.{drop-cons, length-take-le}
 use lib.Dec.{ltb, eqb}
@@ -116,7 +116,7 @@ end-step t at l z = step-zero t at (wordAt t at) (omega arith) refl z ∙ simp (
 Says : List ℕ → ℕ → Step → Type 0
 Says t at (Section address size start next) = IsSection t at address size start next
 Says t at End = (length t ≡ at + 4) × (wordAt t at ≡ 0)
-Says t at (Fault number place) = number ≡ 0 → ⊥
+Says t at (Fault number place) = (1 ≤ number) × (number ≤ 8) × (at ≤ length t → place ≤ length t)
 
 section-says : (t : List ℕ) (at address size start next : ℕ) (s : Step) → IsSection t at address size start next → Section address size start next ≡ s → Says t at s
 unfolding Says
@@ -126,26 +126,26 @@ end-says : (t : List ℕ) (at : ℕ) (s : Step) → length t ≡ at + 4 → word
 unfolding Says
 end-says t at s l z e = subst (Says t at) e (l, z)
 
-fault-says : (t : List ℕ) (at number place : ℕ) (s : Step) → 1 ≤ number → Fault number place ≡ s → Says t at s
+fault-says : (t : List ℕ) (at number place : ℕ) (s : Step) → (1 ≤ number) × (number ≤ 8) × (at ≤ length t → place ≤ length t) → Fault number place ≡ s → Says t at s
 unfolding Says
-fault-says t at number place s h e = subst (Says t at) e (λ z. omega arith)
+fault-says t at number place s h e = subst (Says t at) e h
 
 -- a step is followed down its tests
 step-says : (t : List ℕ) (at : ℕ) (s : Step) → stepAt t at ≡ s → Says t at s
 unfolding stepAt endStep sectionStep nextOf
 step-says t at s e =
     if-split (ltb (length t) (at + 4)) _ _ s e
-    (λ h1. fault-says t at _ _ s (omega arith))
+    (λ h1. fault-says t at _ _ s (omega arith, omega arith, λ h. h))
     (λ h1 e1. if-split (eqb (wordAt t at) 0) _ _ s e1
     (λ h2 e2. if-split (ltb (at + 4) (length t)) _ _ s e2
-    (λ h3. fault-says t at _ _ s (omega arith))
+    (λ h3. fault-says t at _ _ s (omega arith, omega arith, λ h. omega (arith, ltb-true (at + 4) (length t) h3)))
     (λ h3. end-says t at s (omega (arith, ltb-false (length t) (at + 4) h1, ltb-false (at + 4) (length t) h3)) (eqb-true _ _ h2)))
     (λ h2 e2. if-split (ltb (length t) (nextOf at (wordAt t at))) _ _ s e2
-    (λ h3. fault-says t at _ _ s (omega arith))
+    (λ h3. fault-says t at _ _ s (omega arith, omega arith, λ h. h))
     (λ h3 e3. if-split (ltb (2 ^ 32) (wordAt t (at + 4) + wordAt t at)) _ _ s e3
-    (λ h4. fault-says t at _ _ s (omega arith))
+    (λ h4. fault-says t at _ _ s (omega arith, omega arith, λ h. h))
     (λ h4 e4. if-split (not (allZero (padsAt t at (wordAt t at)))) _ _ s e4
-    (λ h5. fault-says t at _ _ s (omega arith))
+    (λ h5. fault-says t at _ _ s (omega arith, omega arith, λ h. h))
     (λ h5. section-says t at _ _ _ _ s (record {
       start-is = refl;
       next-is = refl;
@@ -168,10 +168,13 @@ pub end-of : (t : List ℕ) (at : ℕ) → stepAt t at ≡ End → (length t ≡
 unfolding Says
 end-of t at e = step-says t at End e
 
--- a fault has a number that is not 0
-pub fault-number : (t : List ℕ) (at : ℕ) {number place : ℕ} → stepAt t at ≡ Fault number place → number ≡ 0 → ⊥
+-- a fault has a number from 1 to 8, and a place within the table
+pub fault-of : (t : List ℕ) (at : ℕ) {number place : ℕ} → stepAt t at ≡ Fault number place → (1 ≤ number) × (number ≤ 8) × (at ≤ length t → place ≤ length t)
 unfolding Says
-fault-number t at {number} {place} e = step-says t at (Fault number place) e
+fault-of t at {number} {place} e = step-says t at (Fault number place) e
+
+pub fault-number : (t : List ℕ) (at : ℕ) {number place : ℕ} → stepAt t at ≡ Fault number place → number ≡ 0 → ⊥
+fault-number t at e z = omega (arith, fault-of t at e .0)
 
 -- ---- the last else of a let-else knows the tags that are left: 0 a section, 1 the end, 2 a fault
 
