@@ -185,10 +185,6 @@ end-left End p q = refl
 end-left (Fault number place) p q = absurd (⊎-elim (λ e. omega arith) (λ e. omega arith) q)
 
 -- neither a section nor the end
-pub fault-left : (s : Step) → OneOf (1 ∷ 2 ∷ []) (tagOf the-type s) → OneOf (0 ∷ 2 ∷ []) (tagOf the-type s) → (number : ℕ) × (place : ℕ) × (s ≡ Fault number place)
-fault-left (Section address size start next) p q = absurd (⊎-elim (λ e. omega arith) (λ e. omega arith) p)
-fault-left End p q = absurd (⊎-elim (λ e. omega arith) (λ e. omega arith) q)
-fault-left (Fault number place) p q = (number, place, refl)
 
 -- ---- the section itself
 

@@ -1,0 +1,172 @@
+// The C interface: each call writes its answer as numbers into an array that the caller lends.
+ghost use mathlib.Core.Path.{_≡_};
+ghost use lib.ListN.{length};
+ghost use Rattle.region_map.specs.Map.{mapAnswer};
+ghost use Rattle.loader.specs.Load.{judgeAnswer, loadAnswer, loadMemory};
+ghost use Rattle.joiner.specs.Join.{joinAnswer, joinOutput};
+ghost use Rattle.boot_config.specs.Config.{configAnswer, configValues};
+ghost use Rattle.boot_strap.specs.Strap.{decodeAs, decodeShort, sameAnswer, labelAnswer};
+ghost use Rattle.tuneharbor.specs.Numbers.{mapNumbers, loadNumbers, joinNumbers, configNumbers};
+ghost use Rattle.tuneharbor.specs.Numbers.{mannerOf, strapNumbers, sameNumbers, labelNumbers};
+use boot_config::configure;
+use boot_strap::Manner;
+use boot_strap::StrapAnswer;
+use joiner::join;
+use loader::Answer;
+use loader::judge;
+use loader::load;
+use region_map::judge_map;
+
+// Judges a map.
+#[no_mangle]
+pub extern "C" fn tuneharbor_map(map: &[u8], answer: &mut [u64; 3])
+    ensures { λ _. ⌜ now (answer .exit) ≡ mapNumbers (mapAnswer (now (map .entry))) ⌝ }
+{
+    let r = judge_map(map);
+    *answer = [r.number as u64, r.place as u64, r.bytes as u64];
+}
+
+// An answer of judging or loading as numbers.
+fn load_numbers(r: Answer) -> [u64; 7]
+    ensures { λ n. ⌜ n ≡ loadNumbers r ⌝ }
+{
+    [
+        r.number as u64,
+        r.place as u64,
+        r.address as u64,
+        r.entry as u64,
+        r.entry_open as u64,
+        r.sections as u64,
+        r.bytes as u64,
+    ]
+}
+
+// Judges a map and a table.
+#[no_mangle]
+pub extern "C" fn tuneharbor_judge(map: &[u8], table: &[u8], answer: &mut [u64; 7])
+    ensures { λ _. ⌜ now (answer .exit) ≡ loadNumbers (judgeAnswer (now (map .entry)) (now (table .entry))) ⌝ }
+{
+    *answer = load_numbers(judge(map, table));
+}
+
+// Loads a table into memory under a map.
+#[no_mangle]
+pub extern "C" fn tuneharbor_load(
+    map: &[u8],
+    table: &[u8],
+    memory: &mut [u8],
+    answer: &mut [u64; 7],
+)
+    ensures { λ _. ⌜ now (answer .exit) ≡ loadNumbers (loadAnswer (now (map .entry)) (now (table .entry)) (length (now (memory .entry)))) ⌝ }
+    ensures { λ _. ⌜ now (memory .exit) ≡ loadMemory (now (map .entry)) (now (table .entry)) (now (memory .entry)) ⌝ }
+{
+    *answer = load_numbers(load(map, table, memory));
+}
+
+// Joins two tables into an output.
+#[no_mangle]
+pub extern "C" fn tuneharbor_join(
+    first: &[u8],
+    second: &[u8],
+    output: &mut [u8],
+    answer: &mut [u64; 5],
+)
+    ensures { λ _. ⌜ now (answer .exit) ≡ joinNumbers (joinAnswer (now (first .entry)) (now (second .entry)) (length (now (output .entry)))) ⌝ }
+    ensures { λ _. ⌜ now (output .exit) ≡ joinOutput (now (first .entry)) (now (second .entry)) (now (output .entry)) ⌝ }
+{
+    let r = join(first, second, output);
+    *answer = [
+        r.number as u64,
+        r.place as u64,
+        r.table as u64,
+        r.length as u64,
+        r.sections as u64,
+    ];
+}
+
+// Sets and clears bits of registers by a configuration table.
+#[no_mangle]
+pub extern "C" fn tuneharbor_configure(
+    table: &[u8],
+    addresses: &[u32],
+    values: &mut [u32],
+    answer: &mut [u64; 4],
+)
+    ensures { λ _. ⌜ now (answer .exit) ≡ configNumbers (configAnswer (now (table .entry)) (now (addresses .entry)) (now (values .entry))) ⌝ }
+    ensures { λ _. ⌜ now (values .exit) ≡ configValues (now (table .entry)) (now (addresses .entry)) (now (values .entry)) ⌝ }
+{
+    let r = configure(table, addresses, values);
+    *answer = [
+        r.number as u64,
+        r.place as u64,
+        r.entries as u64,
+        r.bits as u64,
+    ];
+}
+
+// A strap answer as numbers.
+fn strap_numbers(r: StrapAnswer) -> [u64; 9]
+    ensures { λ n. ⌜ n ≡ strapNumbers r ⌝ }
+{
+    match r {
+        StrapAnswer::Refused(number) => [number as u64, 0, 0, 0, 0, 0, 0, 0, 0],
+        StrapAnswer::Decoded(strap) => {
+            let v = boot_strap::values_of(strap);
+            [
+                0,
+                0,
+                v.kind as u64,
+                v.first as u64,
+                v.second as u64,
+                v.third as u64,
+                v.fourth as u64,
+                v.fifth as u64,
+                v.sixth as u64,
+            ]
+        }
+    }
+}
+
+fn manner_of(strict: bool) -> Manner
+    ensures { λ r. ⌜ r ≡ mannerOf strict ⌝ }
+{
+    if strict {
+        Manner::Strict
+    } else {
+        Manner::Lenient
+    }
+}
+
+// Decodes a strap value, strictly or leniently.
+#[no_mangle]
+pub extern "C" fn tuneharbor_strap(value: u32, strict: bool, answer: &mut [u64; 9])
+    ensures { λ _. ⌜ now (answer .exit) ≡ strapNumbers (decodeAs (mannerOf strict) value) ⌝ }
+{
+    *answer = strap_numbers(boot_strap::decode_as(value, manner_of(strict)));
+}
+
+// Decodes a strap value where no manner is named.
+#[no_mangle]
+pub extern "C" fn tuneharbor_strap_short(value: u32, answer: &mut [u64; 9])
+    ensures { λ _. ⌜ now (answer .exit) ≡ strapNumbers (decodeShort value) ⌝ }
+{
+    *answer = strap_numbers(boot_strap::decode(value));
+}
+
+// Whether two strap values have one kind and equal fields.
+#[no_mangle]
+pub extern "C" fn tuneharbor_strap_same(first: u32, second: u32, answer: &mut [u64; 3])
+    ensures { λ _. ⌜ now (answer .exit) ≡ sameNumbers (sameAnswer first second) ⌝ }
+{
+    let r = boot_strap::same(first, second);
+    *answer = [r.number as u64, r.place as u64, r.same as u64];
+}
+
+// The board label's number of a strap value.
+#[no_mangle]
+pub extern "C" fn tuneharbor_strap_label(value: u32, answer: &mut [u64; 3])
+    ensures { λ _. ⌜ now (answer .exit) ≡ labelNumbers (labelAnswer value) ⌝ }
+{
+    let r = boot_strap::label(value);
+    *answer = [r.number as u64, r.place as u64, r.label as u64];
+}

@@ -1,0 +1,103 @@
+/* Judges, joins and loads two small tables, and prints what each call answers.
+ *
+ *   rt staticlib tuneharbor
+ *   cc -std=c99 -Wall -Wextra -Werror -Iinclude examples/bench.c target/staticlib/libtuneharbor.a -o target/bench
+ *
+ * It must print examples/bench.expected. */
+#include <inttypes.h>
+#include <stdio.h>
+#include <string.h>
+
+#include "tuneharbor.h"
+
+/* 16 permitted bytes from 0x00800000 on. */
+static const uint8_t map[12] = {
+    0x52, 0x47, 0x01, 0x00, 0x00, 0x80, 0x00, 0x00, 0x00, 0x00, 0x00, 0x10,
+};
+
+/* Entry address, one section of 3 bytes with a pad byte, zero word. */
+static const uint8_t table_p[20] = {
+    0x00, 0x80, 0x00, 0x00, 0x00, 0x00, 0x00, 0x03, 0x00, 0x80,
+    0x00, 0x02, 0xA1, 0xA2, 0xA3, 0x00, 0x00, 0x00, 0x00, 0x00,
+};
+
+/* Entry address, one section of 1 byte with three pad bytes, zero word. */
+static const uint8_t table_q[20] = {
+    0x00, 0x80, 0x00, 0x04, 0x00, 0x00, 0x00, 0x01, 0x00, 0x80,
+    0x00, 0x04, 0xB7, 0x00, 0x00, 0x00, 0x00, 0x00, 0x00, 0x00,
+};
+
+static void print_table_answer(const char *what, const uint64_t answer[7])
+{
+    printf("%s: number %" PRIu64 ", place %" PRIu64 ", address %08" PRIX64
+           ", entry %08" PRIX64 ", open %" PRIu64 ", sections %" PRIu64
+           ", bytes %" PRIu64 "\n",
+           what, answer[0], answer[1], answer[2], answer[3], answer[4],
+           answer[5], answer[6]);
+}
+
+static void judge(const char *what, const uint8_t *table, size_t table_len)
+{
+    uint64_t answer[7];
+
+    tuneharbor_judge(map, sizeof map, table, table_len, answer);
+    print_table_answer(what, answer);
+}
+
+/* Loads into zeroed memory. */
+static void load(const char *what, const uint8_t *table, size_t table_len)
+{
+    uint64_t answer[7];
+    uint8_t memory[16];
+    size_t i;
+
+    memset(memory, 0, sizeof memory);
+    tuneharbor_load(map, sizeof map, table, table_len, memory, sizeof memory, answer);
+    print_table_answer(what, answer);
+    printf("memory:");
+    for (i = 0; i < sizeof memory; i++)
+        printf(" %02X", (unsigned)memory[i]);
+    printf("\n");
+}
+
+/* Joins two tables of 20 bytes, and answers the join's length. */
+static size_t join(const char *what, const uint8_t first[20],
+                   const uint8_t second[20], uint8_t output[32])
+{
+    uint64_t answer[5];
+
+    tuneharbor_join(first, 20, second, 20, output, 32, answer);
+    printf("%s: number %" PRIu64 ", place %" PRIu64 ", table %" PRIu64
+           ", length %" PRIu64 ", sections %" PRIu64 "\n",
+           what, answer[0], answer[1], answer[2], answer[3], answer[4]);
+    return (size_t)answer[3];
+}
+
+int main(void)
+{
+    uint64_t answer[3];
+    uint8_t output[32] = {0};
+    uint8_t padded[20];
+    size_t length;
+
+    tuneharbor_map(map, sizeof map, answer);
+    printf("map: number %" PRIu64 ", place %" PRIu64 ", sum %" PRIu64 "\n",
+           answer[0], answer[1], answer[2]);
+
+    judge("judge P", table_p, sizeof table_p);
+    judge("judge Q", table_q, sizeof table_q);
+    load("load P", table_p, sizeof table_p);
+
+    length = join("join P and Q", table_p, table_q, output);
+    load("load P and Q", output, length);
+
+    length = join("join Q and P", table_q, table_p, output);
+    load("load Q and P", output, length);
+
+    memcpy(padded, table_p, sizeof padded);
+    padded[15] = 0x01;
+    judge("judge P with pad byte 01", padded, sizeof padded);
+    join("join Q and P with pad byte 01", table_q, padded, output);
+    load("load P with pad byte 01", padded, sizeof padded);
+    return 0;
+}

@@ -1,0 +1,151 @@
+/* Region maps, boot tables, configuration tables and strap values.
+ *
+ * Link with libtuneharbor.a. A call writes its answer as numbers into an
+ * array that the caller lends, and keeps nothing between calls.
+ *
+ * No pointer may be null, not even where its count is 0. Memory that a call
+ * writes (answer, memory, output, values) must not overlap any other
+ * argument.
+ *
+ * answer[0], the number, is 0 or that of a refusal. answer[1], the place, is
+ * where a refusal arose: a byte offset into the table, or the index of a map
+ * record; 0 where there is no such place. After a refusal memory, output and
+ * values are unchanged, and all answers from answer[2] on are 0 but those
+ * that are said to speak of a refusal. */
+#ifndef TUNEHARBOR_H
+#define TUNEHARBOR_H
+
+#include <stdbool.h>
+#include <stddef.h>
+#include <stdint.h>
+
+#ifdef __cplusplus
+extern "C" {
+#endif
+
+/* The numbers of the refusals. */
+enum {
+    TUNEHARBOR_MAP_LENGTH = 1,       /* the map's length is no multiple of 12, or over 768 */
+    TUNEHARBOR_MAP_RECORD = 2,       /* a map record breaks a rule */
+    TUNEHARBOR_MEMORY_LENGTH = 3,    /* the memory's length differs from the permitted sum */
+    TUNEHARBOR_TABLE_LONG = 4,       /* the boot table is over 16,777,216 bytes */
+    TUNEHARBOR_TABLE_CUT = 5,        /* the boot table is cut short */
+    TUNEHARBOR_PAD_NOT_ZERO = 6,     /* a pad byte is not zero */
+    TUNEHARBOR_BYTES_AFTER = 7,      /* bytes stand after the zero word */
+    TUNEHARBOR_PAST_TOP = 8,         /* address plus size is over 2^32 */
+    TUNEHARBOR_NOT_OPEN = 9,         /* an address is not open */
+    TUNEHARBOR_JOIN_LONG = 10,       /* the join is over 16,777,216 bytes */
+    TUNEHARBOR_OUTPUT_SHORT = 11,    /* the output is shorter than the result */
+    TUNEHARBOR_REGISTERS_UNFIT = 12, /* the register lists are unfit */
+    TUNEHARBOR_CONFIG_LONG = 13,     /* the configuration table is over 49,152 bytes */
+    TUNEHARBOR_CONFIG_CUT = 14,      /* the configuration table ends before three zero words */
+    TUNEHARBOR_CONFIG_AFTER = 15,    /* bytes stand after the end entry */
+    TUNEHARBOR_NO_REGISTER = 16,     /* a register is not in the list */
+    TUNEHARBOR_BRANCH = 17,          /* a branch is asked for */
+    TUNEHARBOR_STRAP_LONG = 18,      /* the strap value is over 8,191 */
+    TUNEHARBOR_STRAP_RESERVED = 19   /* the strap value is reserved */
+};
+
+/* Judges a map.
+ *
+ * answer[0] number
+ * answer[1] place
+ * answer[2] the permitted sum: how many bytes of memory loading needs */
+void tuneharbor_map(const uint8_t *map, size_t map_len, uint64_t answer[3]);
+
+/* Judges a map and a boot table, and stores nothing.
+ *
+ * answer[0] number
+ * answer[1] place
+ * answer[2] after the refusal TUNEHARBOR_NOT_OPEN the section's lowest address
+ *           that is not open, else 0
+ * answer[3] the entry address
+ * answer[4] 1 where the entry address is open, else 0
+ * answer[5] how many sections the table has
+ * answer[6] how many data bytes the sections have together */
+void tuneharbor_judge(const uint8_t *map, size_t map_len,
+                      const uint8_t *table, size_t table_len,
+                      uint64_t answer[7]);
+
+/* Loads a boot table into memory under a map. Memory of another length than the
+ * permitted sum is refused. Nothing is stored before the whole table is accepted.
+ *
+ * answer[0] to answer[6] as for tuneharbor_judge */
+void tuneharbor_load(const uint8_t *map, size_t map_len,
+                     const uint8_t *table, size_t table_len,
+                     uint8_t *memory, size_t memory_len,
+                     uint64_t answer[7]);
+
+/* Joins two boot tables: the second's entry address, the first's sections,
+ * and then the second's. The output past the join is unchanged.
+ *
+ * answer[0] number
+ * answer[1] place
+ * answer[2] after a refusal the table that it speaks of, 1 or 2, or 0 for the
+ *           join itself; else 0
+ * answer[3] the join's length in bytes
+ * answer[4] how many sections the join has */
+void tuneharbor_join(const uint8_t *first, size_t first_len,
+                     const uint8_t *second, size_t second_len,
+                     uint8_t *output, size_t output_len,
+                     uint64_t answer[5]);
+
+/* Sets and clears bits of registers by a configuration table. A register has
+ * its address and its value at one index of the two lists, which must have one
+ * length, at most 1,024, with strictly rising addresses. Their counts are in
+ * elements.
+ *
+ * answer[0] number
+ * answer[1] place
+ * answer[2] how many entries the table has before its end entry
+ * answer[3] how many bits of the values differ after the whole table */
+void tuneharbor_configure(const uint8_t *table, size_t table_len,
+                          const uint32_t *addresses, size_t addresses_len,
+                          uint32_t *values, size_t values_len,
+                          uint64_t answer[4]);
+
+/* Decodes a strap value. Where strict is true, reserved bits are judged; else
+ * they are ignored.
+ *
+ * answer[0] number
+ * answer[1] place, always 0
+ * answer[2] kind
+ * answer[3] to answer[8] the kind's fields in the order below, 1 for yes and
+ *           0 for no, and 0 past the last
+ *
+ * kind 0, sleep:        SR, wait, clock
+ * kind 1, EMIF16:       SR, wait, clock
+ * kind 2, link:         device, number, clock
+ * kind 3, Ethernet:     device, multiplier, connection, id, clock
+ * kind 4, PCIe:         BAR, SR, clock
+ * kind 5, I2C master:   number
+ * kind 6, I2C passive:  address
+ * kind 7, SPI:          mode, five pins, wide address, chip select, table, SR */
+void tuneharbor_strap(uint32_t value, bool strict, uint64_t answer[9]);
+
+/* Decodes a strap value where no manner is named: reserved bits are ignored.
+ *
+ * answer[0] to answer[8] as for tuneharbor_strap */
+void tuneharbor_strap_short(uint32_t value, uint64_t answer[9]);
+
+/* Whether two strap values have one kind and equal fields. Reserved bits are
+ * ignored. The first value's refusal comes before the second's.
+ *
+ * answer[0] number
+ * answer[1] place, always 0
+ * answer[2] 1 where they are the same, else 0 */
+void tuneharbor_strap_same(uint32_t first, uint32_t second, uint64_t answer[3]);
+
+/* The board label's number of a strap value: its kind. Reserved bits are
+ * ignored.
+ *
+ * answer[0] number
+ * answer[1] place, always 0
+ * answer[2] label */
+void tuneharbor_strap_label(uint32_t value, uint64_t answer[3]);
+
+#ifdef __cplusplus
+}
+#endif
+
+#endif

@@ -1,0 +1,710 @@
+//! Builders for maps and tables, and the generated cases. All cases follow
+//! from one seed. The variable TUNEHARBOR_SEED changes the seed and
+//! TUNEHARBOR_CASES the count of generated cases.
+
+use crate::reference::{CONFIG_LIMIT, TOP};
+
+/// The seed where TUNEHARBOR_SEED names no other.
+pub const SEED: u64 = 20_261_115;
+/// The count of generated cases where TUNEHARBOR_CASES names no other.
+pub const CASES: u64 = 1_000_000;
+
+fn variable(name: &str, otherwise: u64) -> u64 {
+    match std::env::var(name) {
+        Ok(text) => text
+            .parse()
+            .unwrap_or_else(|_| panic!("{name} must be a decimal number, not {text:?}")),
+        Err(_) => otherwise,
+    }
+}
+
+/// The seed of this run.
+pub fn seed() -> u64 {
+    variable("TUNEHARBOR_SEED", SEED)
+}
+
+/// The count of generated cases of this run.
+pub fn count() -> u64 {
+    variable("TUNEHARBOR_CASES", CASES)
+}
+
+/// A splitmix generator of 64-bit numbers.
+pub struct Numbers(u64);
+
+impl Numbers {
+    /// A generator for one use of the run's seed.
+    pub fn new(seed: u64, part: u64) -> Self {
+        let mut numbers = Numbers(seed);
+        let start = numbers.next() ^ part.wrapping_mul(0x9E37_79B9_7F4A_7C15);
+        Numbers(start)
+    }
+
+    fn next(&mut self) -> u64 {
+        self.0 = self.0.wrapping_add(0x9E37_79B9_7F4A_7C15);
+        let mut z = self.0;
+        z = (z ^ (z >> 30)).wrapping_mul(0xBF58_476D_1CE4_E5B9);
+        z = (z ^ (z >> 27)).wrapping_mul(0x94D0_49BB_1331_11EB);
+        z ^ (z >> 31)
+    }
+
+    /// A number below a limit that is not zero.
+    pub fn below(&mut self, limit: u64) -> u64 {
+        self.next() % limit
+    }
+
+    /// An index below a length that is not zero.
+    pub fn index(&mut self, length: usize) -> usize {
+        self.below(length as u64) as usize
+    }
+
+    /// A number from `low` to `high`, both included.
+    pub fn from_to(&mut self, low: u64, high: u64) -> u64 {
+        low + self.below(high - low + 1)
+    }
+
+    /// Yes, once in so many times.
+    pub fn once_in(&mut self, times: u64) -> bool {
+        self.below(times) == 0
+    }
+
+    pub fn pick<T: Copy>(&mut self, from: &[T]) -> T {
+        from[self.index(from.len())]
+    }
+
+    pub fn word(&mut self) -> u32 {
+        self.next() as u32
+    }
+
+    pub fn byte(&mut self) -> u8 {
+        self.next() as u8
+    }
+
+    pub fn bytes(&mut self, length: usize) -> Vec<u8> {
+        (0..length).map(|_| self.byte()).collect()
+    }
+
+    fn shuffle<T>(&mut self, list: &mut [T]) {
+        for i in (1..list.len()).rev() {
+            list.swap(i, self.index(i + 1));
+        }
+    }
+}
+
+// Builders.
+
+/// A map record.
+pub fn record(kind: u8, first: u32, length: u32) -> Vec<u8> {
+    let mut bytes = vec![0x52, 0x47, kind, 0];
+    bytes.extend(first.to_be_bytes());
+    bytes.extend(length.to_be_bytes());
+    bytes
+}
+
+/// A map from kind, first address and length of each record.
+pub fn map(records: &[(u8, u32, u32)]) -> Vec<u8> {
+    let mut bytes = Vec::new();
+    for (kind, first, length) in records {
+        bytes.extend(record(*kind, *first, *length));
+    }
+    bytes
+}
+
+/// A section: size word, address word, data, zero pads.
+pub fn section(address: u32, data: &[u8]) -> Vec<u8> {
+    let mut bytes = Vec::with_capacity(data.len() + 12);
+    bytes.extend((data.len() as u32).to_be_bytes());
+    bytes.extend(address.to_be_bytes());
+    bytes.extend(data);
+    while bytes.len() % 4 != 0 {
+        bytes.push(0);
+    }
+    bytes
+}
+
+/// A boot table from its entry and the address and data of each section.
+pub fn table(entry: u32, sections: &[(u32, &[u8])]) -> Vec<u8> {
+    let mut bytes = entry.to_be_bytes().to_vec();
+    for (address, data) in sections {
+        bytes.extend(section(*address, data));
+    }
+    bytes.extend([0; 4]);
+    bytes
+}
+
+/// Configuration entries from address, bits to set and bits to clear, with no
+/// end entry.
+pub fn entries(list: &[(u32, u32, u32)]) -> Vec<u8> {
+    let mut bytes = Vec::new();
+    for (address, set, clear) in list {
+        for word in [address, set, clear] {
+            bytes.extend(word.to_be_bytes());
+        }
+    }
+    bytes
+}
+
+/// A configuration table: entries and the end entry.
+pub fn config(list: &[(u32, u32, u32)]) -> Vec<u8> {
+    let mut bytes = entries(list);
+    bytes.extend([0; 12]);
+    bytes
+}
+
+fn set_word(bytes: &mut [u8], at: usize, value: u32) {
+    bytes[at..at + 4].copy_from_slice(&value.to_be_bytes());
+}
+
+// Maps.
+
+/// A generated map and the runs of its permitted records in map order.
+#[derive(Clone, Debug)]
+pub struct Ground {
+    pub map: Vec<u8>,
+    /// First address and length of each permitted record.
+    pub runs: Vec<(u64, u64)>,
+}
+
+impl Ground {
+    /// All permitted lengths together.
+    pub fn memory_size(&self) -> u64 {
+        self.runs.iter().map(|run| run.1).sum()
+    }
+}
+
+/// A sound map: short permitted records that touch or lie near each other, in
+/// rising, falling or mixed order, with reserved records as holes in them.
+pub fn sound_map(numbers: &mut Numbers) -> Ground {
+    let everything = numbers.once_in(40);
+    let full = numbers.once_in(30);
+    let wanted = match numbers.below(20) {
+        _ if full => numbers.from_to(40, 64),
+        0 => 0,
+        1..=6 => 1,
+        _ => numbers.from_to(2, 5),
+    };
+    let mut runs = Vec::new();
+    if numbers.once_in(60) {
+        // Nearly all addresses permitted: such memory is never lent.
+        runs.push((numbers.below(2), 0xFFFF_FFFF));
+    } else {
+        let random = u64::from(numbers.word());
+        let mut at = numbers.pick(&[
+            0,
+            1,
+            0x0080_0000,
+            0x7FFF_FFF0,
+            TOP - 40,
+            TOP - 80,
+            TOP - 1,
+            random,
+        ]);
+        for _ in 0..wanted {
+            at += numbers.pick(&[0, 0, 0, 1, 2, 3, 15, 16]);
+            let mut length = numbers.from_to(1, 24);
+            if at >= TOP {
+                break;
+            }
+            if at + length > TOP {
+                length = TOP - at;
+            }
+            runs.push((at, length));
+            at += length;
+        }
+    }
+    match numbers.below(4) {
+        0 => runs.reverse(),
+        1 => numbers.shuffle(&mut runs),
+        _ => {}
+    }
+    let mut records: Vec<Vec<u8>> = runs
+        .iter()
+        .map(|(first, length)| record(1, *first as u32, *length as u32))
+        .collect();
+    let holes = if full {
+        64 - records.len() as u64
+    } else if numbers.once_in(3) {
+        numbers.from_to(1, 3)
+    } else {
+        0
+    };
+    for _ in 0..holes {
+        let (first, length) = if runs.is_empty() || numbers.once_in(6) || full {
+            (u64::from(numbers.word()), numbers.from_to(1, 8))
+        } else {
+            let run = numbers.pick(&runs);
+            let first = run.0 + numbers.below(run.1.min(40) + 1);
+            (first, numbers.from_to(1, 4))
+        };
+        let first = first.min(TOP - 1);
+        let length = length.min(TOP - first);
+        let at = numbers.index(records.len() + 1);
+        records.insert(at, record(2, first as u32, length as u32));
+    }
+    if everything && records.len() <= 62 {
+        let at = numbers.index(records.len() + 1);
+        records.insert(at, record(2, 0, 0xFFFF_FFFF));
+        if numbers.once_in(2) {
+            records.insert(at, record(2, 0xFFFF_FFFF, 1));
+        }
+    }
+    Ground {
+        map: records.concat(),
+        runs,
+    }
+}
+
+/// One damage to a map.
+fn damage_map(numbers: &mut Numbers, ground: &mut Ground) {
+    let map = &mut ground.map;
+    let count = map.len() / 12;
+    if count > 0 && !numbers.once_in(4) {
+        let at = numbers.index(count) * 12;
+        let first = u32::from_be_bytes([map[at + 4], map[at + 5], map[at + 6], map[at + 7]]);
+        let length = u32::from_be_bytes([map[at + 8], map[at + 9], map[at + 10], map[at + 11]]);
+        match numbers.below(12) {
+            0 => map[at] = numbers.byte(),
+            1 => map[at + 1] ^= 1 << numbers.below(8),
+            2 => map[at + 2] = numbers.pick(&[0, 3, 4, 255]),
+            3 => map[at + 3] = numbers.pick(&[1, 128, 255]),
+            4 => set_word(map, at + 8, 0),
+            5 => {
+                let edge = 0u32.wrapping_sub(first);
+                let value = numbers.pick(&[0xFFFF_FFFF, edge, edge.wrapping_add(1)]);
+                set_word(map, at + 8, value);
+            }
+            6 => {
+                let edge = 0u32.wrapping_sub(length);
+                let value = numbers.pick(&[0xFFFF_FFFF, edge, edge.wrapping_add(1)]);
+                set_word(map, at + 4, value);
+            }
+            7 => {
+                // A record equal to another.
+                let copy = map[at..at + 12].to_vec();
+                map.extend(copy);
+            }
+            8 => {
+                // A permitted record that touches, overlaps by one or overlaps
+                // the last address of another.
+                let end = first.wrapping_add(length);
+                let start = numbers.pick(&[end, end.wrapping_sub(1), first.wrapping_sub(1)]);
+                let size = numbers.pick(&[1, 2, 5]);
+                map.extend(record(1, start, size));
+            }
+            9 => {
+                // A permitted record around another.
+                map.extend(record(1, first.saturating_sub(2), 40));
+            }
+            10 => {
+                let spot = numbers.index(map.len());
+                map[spot] = numbers.byte();
+            }
+            _ => {
+                let spot = numbers.index(map.len());
+                map[spot] ^= 1 << numbers.below(8);
+            }
+        }
+    } else {
+        match numbers.below(4) {
+            0 => {
+                let kept = map.len().saturating_sub(numbers.from_to(1, 13) as usize);
+                map.truncate(kept);
+            }
+            1 => {
+                let more = numbers.from_to(1, 13) as usize;
+                let tail = numbers.bytes(more);
+                map.extend(tail);
+            }
+            2 => {
+                // 65 records, or 64 and some bytes.
+                while map.len() < 768 {
+                    map.extend(record(2, 0, 1));
+                }
+                let more = numbers.from_to(1, 12) as usize;
+                map.extend(&record(2, 0, 1)[..more]);
+            }
+            _ => {
+                let length = numbers.index(60);
+                *map = numbers.bytes(length);
+            }
+        }
+    }
+}
+
+// Boot tables.
+
+/// One section of a generated table, with zero pads.
+#[derive(Clone, Debug, PartialEq, Eq)]
+pub struct Piece {
+    pub address: u32,
+    pub data: Vec<u8>,
+}
+
+/// The bytes of a table of pieces.
+pub fn table_of(entry: u32, pieces: &[Piece]) -> Vec<u8> {
+    let list: Vec<(u32, &[u8])> = pieces
+        .iter()
+        .map(|piece| (piece.address, &piece.data[..]))
+        .collect();
+    table(entry, &list)
+}
+
+/// A section whose addresses are in one permitted record, or `None` where the
+/// map has none.
+pub fn inside(numbers: &mut Numbers, ground: &Ground) -> Option<Piece> {
+    if ground.runs.is_empty() {
+        return None;
+    }
+    let (first, length) = numbers.pick(&ground.runs);
+    let skip = numbers.below(length.min(64));
+    let size = numbers.from_to(1, (length - skip).min(24));
+    Some(Piece {
+        address: (first + skip) as u32,
+        data: numbers.bytes(size as usize),
+    })
+}
+
+/// A section that may lie anywhere but does not run past the top.
+fn anywhere(numbers: &mut Numbers, ground: &Ground, before: Option<&Piece>) -> Piece {
+    let mut size = numbers.from_to(1, 13);
+    let random = u64::from(numbers.word());
+    let address = match (numbers.below(5), before) {
+        // Near or touching the section before.
+        (0, Some(piece)) => {
+            let end = u64::from(piece.address) + piece.data.len() as u64;
+            end + numbers.pick(&[0, 0, 1, 3, 15, 16])
+        }
+        // Overlapping the section before.
+        (1, Some(piece)) => u64::from(piece.address) + numbers.below(piece.data.len() as u64),
+        // Across the end of a permitted record.
+        (2 | 3, _) if !ground.runs.is_empty() => {
+            let (first, length) = numbers.pick(&ground.runs);
+            let end = first + length;
+            size += 1;
+            end.saturating_sub(numbers.from_to(1, size))
+        }
+        _ => numbers.pick(&[0, 1, TOP - 1, TOP - size, TOP - size - 1, random]),
+    };
+    let address = address.min(TOP - 1);
+    let size = size.min(TOP - address);
+    Piece {
+        address: address as u32,
+        data: numbers.bytes(size as usize),
+    }
+}
+
+/// The pieces of a well-formed table: most lie in the map, some lie anywhere.
+pub fn pieces(numbers: &mut Numbers, ground: &Ground) -> Vec<Piece> {
+    let wanted = match numbers.below(60) {
+        0 => numbers.from_to(20, 120),
+        1..=5 => 0,
+        _ => numbers.from_to(1, 6),
+    };
+    let wild = numbers.pick(&[4, 12, 1000]);
+    let mut list: Vec<Piece> = Vec::new();
+    for _ in 0..wanted {
+        let piece = match inside(numbers, ground) {
+            Some(piece) if !numbers.once_in(wild) => piece,
+            _ => anywhere(numbers, ground, list.last()),
+        };
+        list.push(piece);
+    }
+    list
+}
+
+/// An entry word: in the map, at an edge, or anywhere.
+pub fn entry(numbers: &mut Numbers, ground: &Ground) -> u32 {
+    if !ground.runs.is_empty() && numbers.once_in(2) {
+        let (first, length) = numbers.pick(&ground.runs);
+        return (first + numbers.below(length.min(64) + 1)) as u32;
+    }
+    let random = numbers.word();
+    numbers.pick(&[0, 1, 0xFFFF_FFFF, 0x8000_0000, random])
+}
+
+/// One damage to a boot table made of pieces.
+fn damage_table(numbers: &mut Numbers, bytes: &mut Vec<u8>, pieces: &[Piece]) {
+    // The offset of each size word and the size it has.
+    let mut offsets = Vec::new();
+    let mut at = 4;
+    for piece in pieces {
+        offsets.push((at, piece.data.len() as u32));
+        at += 8 + piece.data.len().div_ceil(4) * 4;
+    }
+    if !offsets.is_empty() && numbers.once_in(2) {
+        let (at, size) = numbers.pick(&offsets);
+        let data_end = at + 8 + size as usize;
+        let end = at + 8 + (size as usize).div_ceil(4) * 4;
+        match numbers.below(4) {
+            0 => {
+                let value = numbers.pick(&[
+                    0,
+                    1,
+                    size - 1,
+                    size + 1,
+                    size + 4,
+                    0x7FFF_FFFF,
+                    0xFFFF_FFF8,
+                    0xFFFF_FFFC,
+                    0xFFFF_FFFD,
+                    0xFFFF_FFFF,
+                ]);
+                set_word(bytes, at, value);
+            }
+            1 => {
+                let edge = 0u32.wrapping_sub(size);
+                let value = numbers.pick(&[0, 0xFFFF_FFFF, edge, edge.wrapping_add(1)]);
+                set_word(bytes, at + 4, value);
+            }
+            _ if data_end < end => {
+                let spot = data_end + numbers.index(end - data_end);
+                bytes[spot] = numbers.pick(&[1, 2, 128, 255]);
+                // Two faults in one section: the address comes first.
+                if numbers.once_in(4) {
+                    set_word(bytes, at + 4, 0u32.wrapping_sub(size) | 1);
+                }
+            }
+            _ => {
+                let kept = numbers.from_to(at as u64, end as u64) as usize;
+                bytes.truncate(kept);
+            }
+        }
+        return;
+    }
+    match numbers.below(7) {
+        0 => {
+            let kept = numbers.index(bytes.len());
+            bytes.truncate(kept);
+        }
+        1 => {
+            let kept = bytes.len() - numbers.from_to(1, 8) as usize;
+            bytes.truncate(kept);
+        }
+        2 => {
+            let more = numbers.from_to(1, 9) as usize;
+            bytes.extend(vec![0; more]);
+        }
+        3 => {
+            let more = numbers.from_to(1, 9) as usize;
+            let tail = numbers.bytes(more);
+            bytes.extend(tail);
+        }
+        4 => {
+            let spot = numbers.index(bytes.len());
+            bytes[spot] = numbers.byte();
+        }
+        5 => {
+            let spot = numbers.index(bytes.len());
+            bytes[spot] ^= 1 << numbers.below(8);
+        }
+        _ => {
+            let at = numbers.index(bytes.len() / 4) * 4;
+            let value = numbers.pick(&[0, 1, 3, 0x8000_0000, 0xFFFF_FFFF]);
+            set_word(bytes, at, value);
+        }
+    }
+}
+
+/// A boot table, damaged once in so many times.
+pub fn boot_table(numbers: &mut Numbers, ground: &Ground, times: u64) -> Vec<u8> {
+    let list = pieces(numbers, ground);
+    let first_word = entry(numbers, ground);
+    let mut bytes = table_of(first_word, &list);
+    if numbers.once_in(times) {
+        damage_table(numbers, &mut bytes, &list);
+    }
+    bytes
+}
+
+/// A case for the map, judging and loading.
+#[derive(Clone, Debug)]
+pub struct LoadCase {
+    pub map: Vec<u8>,
+    pub table: Vec<u8>,
+    pub memory: Vec<u8>,
+}
+
+pub fn load_case(numbers: &mut Numbers) -> LoadCase {
+    let mut ground = sound_map(numbers);
+    let table = boot_table(numbers, &ground, 3);
+    if numbers.once_in(8) {
+        damage_map(numbers, &mut ground);
+    }
+    let size = match ground.memory_size() {
+        size if size > 1 << 20 => numbers.below(64),
+        size if numbers.once_in(12) => {
+            let other = numbers.below(80);
+            numbers.pick(&[0, size + 1, size.saturating_sub(1), size * 2, other])
+        }
+        size => size,
+    };
+    LoadCase {
+        map: ground.map,
+        table,
+        memory: numbers.bytes(size as usize),
+    }
+}
+
+/// A case for the join.
+#[derive(Clone, Debug)]
+pub struct JoinCase {
+    pub first: Vec<u8>,
+    pub second: Vec<u8>,
+    pub output: Vec<u8>,
+}
+
+pub fn join_case(numbers: &mut Numbers) -> JoinCase {
+    let ground = sound_map(numbers);
+    let first = boot_table(numbers, &ground, 5);
+    let second = boot_table(numbers, &ground, 5);
+    let result = (first.len() + second.len()).saturating_sub(8) as u64;
+    let size = match numbers.below(10) {
+        0 => result.saturating_sub(1),
+        1 => numbers.pick(&[0, 4, result / 2, result.saturating_sub(4)]),
+        2..=5 => result + numbers.from_to(1, 40),
+        _ => result,
+    };
+    JoinCase {
+        first,
+        second,
+        output: numbers.bytes(size as usize),
+    }
+}
+
+// Configuration tables.
+
+/// A case for the configuration table.
+#[derive(Clone, Debug)]
+pub struct ConfigCase {
+    pub table: Vec<u8>,
+    pub addresses: Vec<u32>,
+    pub values: Vec<u32>,
+}
+
+fn mask(numbers: &mut Numbers) -> u32 {
+    let random = numbers.word();
+    numbers.pick(&[0, 1, 0x8000_0000, 0xFFFF_FFFF, 0x0000_FF00, random, random])
+}
+
+pub fn config_case(numbers: &mut Numbers) -> ConfigCase {
+    // Registers: rising addresses, from zero or to the top at times.
+    let wanted = match numbers.below(100) {
+        0 => numbers.from_to(1000, 1026),
+        1..=6 => 0,
+        _ => numbers.from_to(1, 9),
+    };
+    let mut addresses = Vec::new();
+    let mut at = numbers.pick(&[0, 0x0262_0000, 0xFFFF_FF00, 4]);
+    for _ in 0..wanted {
+        if at >= TOP {
+            break;
+        }
+        addresses.push(at as u32);
+        at += numbers.pick(&[1, 4, 4, 4, 255]);
+    }
+    let mut values: Vec<u32> = addresses.iter().map(|_| numbers.word()).collect();
+    if numbers.once_in(12) {
+        match numbers.below(4) {
+            0 => values.push(numbers.word()),
+            1 => {
+                values.pop();
+            }
+            2 if addresses.len() >= 2 => {
+                let i = numbers.index(addresses.len() - 1);
+                addresses[i + 1] = addresses[i];
+            }
+            _ if addresses.len() >= 2 => {
+                let i = numbers.index(addresses.len() - 1);
+                addresses.swap(i, i + 1);
+            }
+            _ => addresses.push(0),
+        }
+    }
+    // Entries: known registers for the most part, a branch or an unknown
+    // register at times.
+    let count = match numbers.below(40) {
+        0 => numbers.from_to(20, 60),
+        1..=5 => 0,
+        _ => numbers.from_to(1, 8),
+    };
+    let wild = numbers.pick(&[5, 20, 1000]);
+    let mut list = Vec::new();
+    for _ in 0..count {
+        let address = if addresses.is_empty() || numbers.once_in(wild) {
+            let random = numbers.word();
+            let near = addresses.first().map_or(1, |a| a.wrapping_add(2));
+            numbers.pick(&[0, 0xFFFF_FFFF, near, random])
+        } else {
+            numbers.pick(&addresses)
+        };
+        let (set, clear) = (mask(numbers), mask(numbers));
+        // Both masks zero would ask for a branch or end the table.
+        let set = if set == 0 && clear == 0 && !numbers.once_in(3) {
+            1
+        } else {
+            set
+        };
+        list.push((address, set, clear));
+    }
+    if !list.is_empty() && numbers.once_in(25) {
+        // An end entry in the middle.
+        let i = numbers.index(list.len());
+        list[i] = (0, 0, 0);
+    }
+    let mut table = config(&list);
+    if numbers.once_in(5) {
+        match numbers.below(7) {
+            0 => {
+                let kept = numbers.index(table.len());
+                table.truncate(kept);
+            }
+            1 => {
+                let kept = table.len() - numbers.from_to(1, 12) as usize;
+                table.truncate(kept);
+            }
+            2 => {
+                let more = numbers.from_to(1, 13) as usize;
+                table.extend(vec![0; more]);
+            }
+            3 => {
+                let more = numbers.from_to(1, 13) as usize;
+                let tail = numbers.bytes(more);
+                table.extend(tail);
+            }
+            4 => {
+                let spot = numbers.index(table.len());
+                table[spot] ^= 1 << numbers.below(8);
+            }
+            5 => {
+                let at = numbers.index(table.len() / 4) * 4;
+                let value = numbers.pick(&[0, 1, 0xFFFF_FFFF]);
+                set_word(&mut table, at, value);
+            }
+            _ => {
+                let spot = numbers.index(table.len());
+                table[spot] = numbers.byte();
+            }
+        }
+    }
+    if numbers.once_in(100) {
+        // At the limit and over it.
+        let length = CONFIG_LIMIT + numbers.pick(&[0, 1, 12, 500]);
+        table.resize(length, 0);
+    }
+    ConfigCase {
+        table,
+        addresses,
+        values,
+    }
+}
+
+// Strap values.
+
+/// A strap value: mostly of 13 bits, at times one bit or more above.
+pub fn strap_value(numbers: &mut Numbers) -> u32 {
+    let random = numbers.word();
+    match numbers.below(8) {
+        0 => numbers.pick(&[0, 8191, 8192, 8193, 0x8000_0000, 0xFFFF_FFFF, random]),
+        1 => (random & 0x1FFF) | (1 << numbers.from_to(13, 31)),
+        _ => random & 0x1FFF,
+    }
+}

@@ -1,0 +1,230 @@
+//! The laws of demand 3 on generated tables, through the library's calls
+//! alone: joining means loading in turn, the join of three tables, and the
+//! swap of two sections.
+
+use second::calls;
+use second::cases::{self, Ground, Numbers, Piece};
+
+/// Generated cases of each law.
+const CASES: u64 = 60_000;
+
+/// A sound map whose memory can be lent.
+fn ground(numbers: &mut Numbers) -> Ground {
+    loop {
+        let ground = cases::sound_map(numbers);
+        if ground.memory_size() < 1 << 16 {
+            assert_eq!(calls::map(&ground.map).bytes, ground.memory_size());
+            return ground;
+        }
+    }
+}
+
+/// A well-formed table, its entry and its pieces.
+struct Made {
+    entry: u32,
+    pieces: Vec<Piece>,
+    bytes: Vec<u8>,
+}
+
+fn made(numbers: &mut Numbers, ground: &Ground) -> Made {
+    let pieces = cases::pieces(numbers, ground);
+    let entry = cases::entry(numbers, ground);
+    let bytes = cases::table_of(entry, &pieces);
+    Made {
+        entry,
+        pieces,
+        bytes,
+    }
+}
+
+/// The join of two well-formed tables in an output with room; the output's
+/// bytes past the result must keep what they held.
+fn join(numbers: &mut Numbers, first: &[u8], second: &[u8]) -> (Vec<u8>, u64) {
+    let length = first.len() + second.len() - 8;
+    let room = length + numbers.pick(&[0, 0, 1, 4, 33]);
+    let before = numbers.bytes(room);
+    let mut output = before.clone();
+    let answer = calls::join(first, second, &mut output);
+    assert_eq!((answer.number, answer.place, answer.table), (0, 0, 0));
+    assert_eq!(answer.length, length as u64);
+    assert_eq!(output[length..], before[length..]);
+    output.truncate(length);
+    (output, answer.sections)
+}
+
+#[test]
+fn joining_means_loading_in_turn() {
+    let mut numbers = Numbers::new(cases::seed(), 30);
+    let mut accepted = 0;
+    let mut refused = [0; 2];
+    for _ in 0..CASES {
+        let ground = ground(&mut numbers);
+        let a = made(&mut numbers, &ground);
+        let b = made(&mut numbers, &ground);
+
+        // The join's bytes, length and count.
+        let (join, sections) = join(&mut numbers, &a.bytes, &b.bytes);
+        let all = [&a.pieces[..], &b.pieces].concat();
+        assert_eq!(join, cases::table_of(b.entry, &all));
+        assert_eq!(sections, all.len() as u64);
+
+        // Loading the join and loading A start from the same memory; loading B
+        // gets the memory that loading A left.
+        let before = numbers.bytes(ground.memory_size() as usize);
+        let mut at_once = before.clone();
+        let mut in_turn = before.clone();
+        let whole = calls::load(&ground.map, &join, &mut at_once);
+        let one = calls::load(&ground.map, &a.bytes, &mut in_turn);
+        let two = calls::load(&ground.map, &b.bytes, &mut in_turn);
+
+        // Accepted exactly when both are.
+        let both = one.number == 0 && two.number == 0;
+        assert_eq!(whole.number == 0, both, "{one:?} {two:?} {whole:?}");
+        if both {
+            assert_eq!(at_once, in_turn);
+            assert_eq!(whole.entry, two.entry);
+            assert_eq!(whole.entry, u64::from(b.entry));
+            assert_eq!(whole.entry_open, two.entry_open);
+            assert_eq!(whole.sections, one.sections + two.sections);
+            assert_eq!(whole.bytes, one.bytes + two.bytes);
+            if at_once != before {
+                accepted += 1;
+            }
+        } else {
+            assert_eq!(at_once, before);
+            refused[usize::from(one.number == 0)] += 1;
+        }
+    }
+    // Memory changed, the first was refused, only the second was refused.
+    println!("in turn: {accepted} accepted, {refused:?} refused");
+    assert!(accepted >= CASES / 10);
+    assert!(refused[0] >= CASES / 100 && refused[1] >= CASES / 100);
+}
+
+#[test]
+fn the_join_of_three_tables() {
+    let mut numbers = Numbers::new(cases::seed(), 31);
+    for _ in 0..CASES {
+        let ground = ground(&mut numbers);
+        let a = made(&mut numbers, &ground);
+        let b = made(&mut numbers, &ground);
+        let c = made(&mut numbers, &ground);
+        let (left, _) = join(&mut numbers, &a.bytes, &b.bytes);
+        let (left, left_sections) = join(&mut numbers, &left, &c.bytes);
+        let (right, _) = join(&mut numbers, &b.bytes, &c.bytes);
+        let (right, right_sections) = join(&mut numbers, &a.bytes, &right);
+        assert_eq!(left, right);
+        assert_eq!(left_sections, right_sections);
+        let all = [&a.pieces[..], &b.pieces, &c.pieces].concat();
+        assert_eq!(left, cases::table_of(c.entry, &all));
+        assert_eq!(left_sections, all.len() as u64);
+    }
+}
+
+/// The addresses that both sections carry, and whether their bytes are equal
+/// at all of them.
+fn shared(one: &Piece, two: &Piece) -> (usize, bool) {
+    let mut count = 0;
+    let mut agree = true;
+    for (i, byte) in one.data.iter().enumerate() {
+        for (j, other) in two.data.iter().enumerate() {
+            let here = u64::from(one.address) + i as u64;
+            if here == u64::from(two.address) + j as u64 {
+                count += 1;
+                agree &= byte == other;
+            }
+        }
+    }
+    (count, agree)
+}
+
+/// Two sections; at times the second carries the first's bytes where they
+/// share an address, or all but one of them.
+fn two_sections(numbers: &mut Numbers, ground: &Ground) -> Option<[Piece; 2]> {
+    let one = cases::inside(numbers, ground)?;
+    let mut two = cases::inside(numbers, ground)?;
+    if numbers.once_in(3) {
+        // Touching or near.
+        let end = u64::from(one.address) + one.data.len() as u64;
+        let near = end + numbers.below(4);
+        if near + two.data.len() as u64 <= 0x1_0000_0000 {
+            two.address = near as u32;
+        }
+    }
+    let agree = numbers.once_in(2);
+    let but_one = numbers.once_in(2);
+    if agree {
+        let mut spots = Vec::new();
+        for j in 0..two.data.len() {
+            let address = u64::from(two.address) + j as u64;
+            if let Some(i) = address.checked_sub(u64::from(one.address)) {
+                if let Some(byte) = one.data.get(i as usize) {
+                    two.data[j] = *byte;
+                    spots.push(j);
+                }
+            }
+        }
+        if but_one && !spots.is_empty() {
+            let spot = numbers.pick(&spots);
+            two.data[spot] ^= 1 << numbers.below(8);
+        }
+    }
+    Some([one, two])
+}
+
+#[test]
+fn the_swap_of_two_sections() {
+    let mut numbers = Numbers::new(cases::seed(), 32);
+    // Apart; sharing and agreeing; sharing and differing.
+    let mut seen = [0; 3];
+    for _ in 0..CASES {
+        let ground = ground(&mut numbers);
+        let Some([one, two]) = two_sections(&mut numbers, &ground) else {
+            continue;
+        };
+        let entry = cases::entry(&mut numbers, &ground);
+        let (count, agree) = shared(&one, &two);
+        let table = cases::table_of(entry, &[one.clone(), two.clone()]);
+        let swapped = cases::table_of(entry, &[two, one]);
+        let before = numbers.bytes(ground.memory_size() as usize);
+        let mut memory = before.clone();
+        let mut other = before;
+        let answer = calls::load(&ground.map, &table, &mut memory);
+        if answer.number != 0 {
+            continue;
+        }
+        assert_eq!(answer, calls::load(&ground.map, &swapped, &mut other));
+        assert_eq!(memory == other, agree);
+        seen[match (count, agree) {
+            (0, _) => 0,
+            (_, true) => 1,
+            (_, false) => 2,
+        }] += 1;
+    }
+    println!("swap: {seen:?}");
+    assert!(seen.iter().all(|times| *times >= CASES / 50), "{seen:?}");
+}
+
+#[test]
+fn a_join_that_just_fits_is_loaded_in_turn() {
+    // Two large tables whose join has exactly the most bytes.
+    let half = 8_388_608 - 12;
+    let mut numbers = Numbers::new(cases::seed(), 33);
+    let one = numbers.bytes(half);
+    let two = numbers.bytes(half);
+    let a = cases::table(1, &[(0x1000_0000, &one)]);
+    let b = cases::table(2, &[(0x1000_0000 + half as u32 / 2, &two)]);
+    let map = cases::map(&[(1, 0x1000_0000, 16_777_216)]);
+    let (join, sections) = join(&mut numbers, &a, &b);
+    assert_eq!((join.len(), sections), (16_777_216, 2));
+    let mut at_once = vec![0x55; 16_777_216];
+    let mut in_turn = at_once.clone();
+    let whole = calls::load(&map, &join, &mut at_once);
+    let first = calls::load(&map, &a, &mut in_turn);
+    let second = calls::load(&map, &b, &mut in_turn);
+    assert_eq!([whole.number, first.number, second.number], [0; 3]);
+    assert_eq!(whole.bytes, first.bytes + second.bytes);
+    assert_eq!((whole.entry, whole.sections), (2, 2));
+    assert!(at_once == in_turn);
+    assert!(at_once[half / 2..half / 2 + half] == two[..]);
+}

@@ -1,0 +1,235 @@
+//! The lister run as a program, its whole output compared with text written by
+//! hand or with the reference's text.
+
+use second::cases::{self, section, table, Numbers};
+use second::reference;
+use std::io::{ErrorKind, Read, Write};
+use std::process::{Command, Stdio};
+use std::time::Duration;
+
+const LISTER: &str = concat!(env!("CARGO_MANIFEST_DIR"), "/../target/bin/lister");
+
+/// Table P of document 01.
+const P: [u8; 20] = [
+    0, 0x80, 0, 0, 0, 0, 0, 3, 0, 0x80, 0, 2, 0xA1, 0xA2, 0xA3, 0, 0, 0, 0, 0,
+];
+
+/// Runs the lister; its input comes in pieces with a pause after each.
+fn run_in_pieces(pieces: &[&[u8]], pause: Duration) -> Vec<u8> {
+    let mut child = Command::new(LISTER)
+        .stdin(Stdio::piped())
+        .stdout(Stdio::piped())
+        .spawn()
+        .unwrap_or_else(|error| panic!("target/bin/lister does not run: {error}"));
+    let mut input = child.stdin.take().expect("standard input is piped");
+    let mut output = child.stdout.take().expect("standard output is piped");
+    let text = std::thread::scope(|scope| {
+        // Output is read while input is written, so that neither waits for ever.
+        let reader = scope.spawn(move || {
+            let mut text = Vec::new();
+            output.read_to_end(&mut text).expect("output can be read");
+            text
+        });
+        for piece in pieces {
+            let written = input.write_all(piece).and_then(|()| input.flush());
+            match written {
+                Ok(()) => {}
+                // Input that is too long need not be read to its end.
+                Err(error) if error.kind() == ErrorKind::BrokenPipe => break,
+                Err(error) => panic!("input cannot be written: {error}"),
+            }
+            std::thread::sleep(pause);
+        }
+        drop(input);
+        reader.join().expect("the reader ends")
+    });
+    let status = child.wait().expect("the lister ends");
+    assert!(status.code().is_some(), "the lister ended by a signal");
+    text
+}
+
+fn run(input: &[u8]) -> Vec<u8> {
+    run_in_pieces(&[input], Duration::ZERO)
+}
+
+/// The output must be this text, and so must the reference's.
+#[track_caller]
+fn prints(input: &[u8], expected: &str) {
+    assert_eq!(String::from_utf8_lossy(&run(input)), expected);
+    assert_eq!(reference::listing(input), expected, "reference");
+}
+
+/// The output must be the reference's text.
+#[track_caller]
+fn prints_as_reference(input: &[u8]) {
+    let text = run(input);
+    let expected = reference::listing(input);
+    assert!(
+        text == expected.as_bytes(),
+        "input of {} bytes: {:?}, expected {:?}",
+        input.len(),
+        String::from_utf8_lossy(&text[..text.len().min(200)]),
+        &expected[..expected.len().min(200)]
+    );
+}
+
+#[test]
+fn table_p() {
+    prints(&P, "entry 00800000\nsection 00800002 3\nend 1 3\n");
+}
+
+#[test]
+fn no_section() {
+    prints(&[0; 8], "entry 00000000\nend 0 0\n");
+    prints(&table(0xFFFF_FFFF, &[]), "entry ffffffff\nend 0 0\n");
+    prints(&table(0x0012_ABCD, &[]), "entry 0012abcd\nend 0 0\n");
+}
+
+#[test]
+fn one_section_at_the_lowest_and_the_highest_address() {
+    let lowest = table(0, &[(0, &[1])]);
+    prints(&lowest, "entry 00000000\nsection 00000000 1\nend 1 1\n");
+    let highest = table(0xFFFF_FFFF, &[(0xFFFF_FFFF, &[1])]);
+    prints(&highest, "entry ffffffff\nsection ffffffff 1\nend 1 1\n");
+    let letters = table(0xABCD_EF09, &[(0x9876_FEDC, &[1, 2])]);
+    prints(&letters, "entry abcdef09\nsection 9876fedc 2\nend 1 2\n");
+}
+
+#[test]
+fn sizes_of_one_to_five_digits() {
+    for size in [
+        1, 4, 9, 10, 11, 99, 100, 101, 999, 1000, 1001, 9999, 10_000, 10_001, 60_000, 65_520,
+    ] {
+        let input = table(0x0080_0000, &[(0x0C00_0000, &vec![0xEE; size])]);
+        let text = format!("entry 00800000\nsection 0c000000 {size}\nend 1 {size}\n");
+        prints(&input, &text);
+    }
+    let several = table(
+        1,
+        &[
+            (0x10, &[7; 9]),
+            (0x20, &[7; 10]),
+            (0x20, &[7; 100]),
+            (0x1000, &[7; 12_345]),
+        ],
+    );
+    prints(
+        &several,
+        "entry 00000001\nsection 00000010 9\nsection 00000020 10\n\
+         section 00000020 100\nsection 00001000 12345\nend 4 12464\n",
+    );
+}
+
+#[test]
+fn five_thousand_sections() {
+    let mut input = vec![0, 0, 0, 1];
+    let mut text = String::from("entry 00000001\n");
+    for i in 0..5000u32 {
+        input.extend(section(i * 0x1_0001, &[i as u8]));
+        text += &format!("section {:08x} 1\n", i * 0x1_0001);
+    }
+    input.extend([0; 4]);
+    text += "end 5000 5000\n";
+    prints(&input, &text);
+    // As many as the limit takes.
+    let mut input = vec![0; 4];
+    for i in 0..5460u32 {
+        input.extend(section(i, &[1, 2, 3, 4]));
+    }
+    input.extend([0; 4]);
+    assert_eq!(input.len(), 65_528);
+    prints_as_reference(&input);
+}
+
+#[test]
+fn an_empty_input() {
+    prints(&[], "refused 5 at 0\n");
+}
+
+#[test]
+fn each_refusal_of_form() {
+    for length in 0..20 {
+        let place = match length {
+            0..=3 => 0,
+            4..=15 => 4,
+            _ => 16,
+        };
+        prints(&P[..length], &format!("refused 5 at {place}\n"));
+    }
+    let mut pad = P;
+    pad[15] = 1;
+    prints(&pad, "refused 6 at 4\n");
+    prints(&[&P[..], &[0]].concat(), "refused 7 at 20\n");
+    prints(&[&P[..], &P[..]].concat(), "refused 7 at 20\n");
+    let over = table(0, &[(0xFFFF_FFFF, &[1, 2])]);
+    prints(&over, "refused 8 at 4\n");
+    let mut size = P;
+    size[4..8].fill(0xFF);
+    prints(&size, "refused 5 at 4\n");
+    // A refusal is the only line, however many sections stand before it.
+    let mut late = vec![0; 4];
+    for i in 0..5000u32 {
+        late.extend(section(i, &[1]));
+    }
+    prints(&late, "refused 5 at 60004\n");
+    late.extend([0; 5]);
+    prints(&late, "refused 7 at 60008\n");
+}
+
+#[test]
+fn inputs_at_and_over_the_limit() {
+    // One section that fills the limit.
+    let whole = table(2, &[(0x0080_0000, &vec![0x41; 65_520])]);
+    assert_eq!(whole.len(), 65_536);
+    prints(
+        &whole,
+        "entry 00000002\nsection 00800000 65520\nend 1 65520\n",
+    );
+    let longer = [&whole[..], &[0]].concat();
+    assert_eq!(longer.len(), 65_537);
+    prints(&longer, "too long\n");
+    prints(&[0; 65_536], "refused 7 at 8\n");
+    prints(&[0; 65_537], "too long\n");
+    prints(&vec![0xFF; 65_536], "refused 5 at 4\n");
+    prints(&vec![0xFF; 65_537], "too long\n");
+    prints(&vec![0; 200_000], "too long\n");
+}
+
+#[test]
+fn input_in_pieces() {
+    let pause = Duration::from_millis(3);
+    let expected = "entry 00800000\nsection 00800002 3\nend 1 3\n";
+    for size in [1, 3, 4, 7, 19] {
+        let pieces: Vec<&[u8]> = P.chunks(size).collect();
+        let text = run_in_pieces(&pieces, pause);
+        assert_eq!(String::from_utf8_lossy(&text), expected, "pieces of {size}");
+    }
+    // The limit counts all pieces together.
+    let whole = table(2, &[(0x0080_0000, &vec![0x41; 65_520])]);
+    let longer = [&whole[..], &[0]].concat();
+    for size in [4096, 10_000, 32_768, 65_535, 65_536] {
+        for input in [&whole, &longer] {
+            let pieces: Vec<&[u8]> = input.chunks(size).collect();
+            let text = run_in_pieces(&pieces, pause);
+            assert_eq!(
+                String::from_utf8_lossy(&text),
+                reference::listing(input),
+                "{} bytes in pieces of {size}",
+                input.len()
+            );
+        }
+    }
+    // Cut tables in pieces.
+    let text = run_in_pieces(&[&P[..7], &P[7..18]], pause);
+    assert_eq!(text, b"refused 5 at 16\n");
+}
+
+#[test]
+fn generated_tables() {
+    let mut numbers = Numbers::new(cases::seed(), 40);
+    for _ in 0..600 {
+        let ground = cases::sound_map(&mut numbers);
+        let input = cases::boot_table(&mut numbers, &ground, 2);
+        prints_as_reference(&input);
+    }
+}

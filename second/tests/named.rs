@@ -1,0 +1,1139 @@
+//! Cases by name: the bench cards, what students write first, and bad inputs
+//! one by one. Expected values are written by hand from document 01, and both
+//! the library and the reference must give them.
+
+use second::cases::{self, config, entries, map, record, section, table, Numbers};
+use second::reference::{
+    ConfigAnswer, JoinAnswer, LabelAnswer, LoadAnswer, MapAnswer, SameAnswer, StrapAnswer,
+    TABLE_LIMIT,
+};
+use second::{calls, reference};
+
+// Map M and tables P and Q of the bench cards.
+const M: [u8; 12] = [0x52, 0x47, 1, 0, 0, 0x80, 0, 0, 0, 0, 0, 0x10];
+const P: [u8; 20] = [
+    0, 0x80, 0, 0, 0, 0, 0, 3, 0, 0x80, 0, 2, 0xA1, 0xA2, 0xA3, 0, 0, 0, 0, 0,
+];
+const Q: [u8; 20] = [
+    0, 0x80, 0, 4, 0, 0, 0, 1, 0, 0x80, 0, 4, 0xB7, 0, 0, 0, 0, 0, 0, 0,
+];
+/// Memory for M: place i holds 0x60 plus i.
+const MEMORY: [u8; 16] = [
+    0x60, 0x61, 0x62, 0x63, 0x64, 0x65, 0x66, 0x67, 0x68, 0x69, 0x6A, 0x6B, 0x6C, 0x6D, 0x6E, 0x6F,
+];
+
+type Judge = fn(&[u8], &[u8]) -> LoadAnswer;
+type Load = fn(&[u8], &[u8], &mut [u8]) -> LoadAnswer;
+type Join = fn(&[u8], &[u8], &mut [u8]) -> JoinAnswer;
+type Configure = fn(&[u8], &[u32], &mut [u32]) -> ConfigAnswer;
+
+const LOADS: [(&str, Judge, Load); 2] = [
+    ("library", calls::judge, calls::load),
+    ("reference", reference::judge, reference::load),
+];
+const JOINS: [(&str, Join); 2] = [("library", calls::join), ("reference", reference::join)];
+const CONFIGURES: [(&str, Configure); 2] = [
+    ("library", calls::configure),
+    ("reference", reference::configure),
+];
+
+fn accepted(entry: u64, entry_open: u64, sections: u64, bytes: u64) -> LoadAnswer {
+    LoadAnswer {
+        number: 0,
+        place: 0,
+        address: 0,
+        entry,
+        entry_open,
+        sections,
+        bytes,
+    }
+}
+
+fn refused(number: u64, place: u64) -> LoadAnswer {
+    not_open(number, place, 0)
+}
+
+fn not_open(number: u64, place: u64, address: u64) -> LoadAnswer {
+    LoadAnswer {
+        number,
+        place,
+        address,
+        entry: 0,
+        entry_open: 0,
+        sections: 0,
+        bytes: 0,
+    }
+}
+
+fn map_gives(map: &[u8], number: u64, place: u64, bytes: u64) {
+    let expected = MapAnswer {
+        number,
+        place,
+        bytes,
+    };
+    assert_eq!(calls::map(map), expected, "library, map {map:02x?}");
+    assert_eq!(reference::map(map), expected, "reference, map {map:02x?}");
+}
+
+/// Loads and judges; memory must go from `before` to `after`. Judging knows no
+/// memory, so refusal 3 is loading's alone.
+fn load_gives(map: &[u8], table: &[u8], before: &[u8], expected: LoadAnswer, after: &[u8]) {
+    for (name, judge, load) in LOADS {
+        let mut memory = before.to_vec();
+        assert_eq!(load(map, table, &mut memory), expected, "{name}, loading");
+        assert_eq!(memory, after, "{name}, memory");
+        if expected.number != 3 {
+            assert_eq!(judge(map, table), expected, "{name}, judging");
+        }
+    }
+}
+
+/// A refusal: memory stays as it was.
+fn load_refuses(map: &[u8], table: &[u8], memory: &[u8], expected: LoadAnswer) {
+    load_gives(map, table, memory, expected, memory);
+}
+
+/// `MEMORY` with some places changed.
+fn with(changes: &[(usize, u8)]) -> Vec<u8> {
+    let mut memory = MEMORY.to_vec();
+    for (place, byte) in changes {
+        memory[*place] = *byte;
+    }
+    memory
+}
+
+fn joined(length: u64, sections: u64) -> JoinAnswer {
+    JoinAnswer {
+        number: 0,
+        place: 0,
+        table: 0,
+        length,
+        sections,
+    }
+}
+
+fn join_refused(number: u64, place: u64, table: u64) -> JoinAnswer {
+    JoinAnswer {
+        number,
+        place,
+        table,
+        length: 0,
+        sections: 0,
+    }
+}
+
+fn join_gives(first: &[u8], second: &[u8], before: &[u8], expected: JoinAnswer, after: &[u8]) {
+    for (name, join) in JOINS {
+        let mut output = before.to_vec();
+        assert_eq!(join(first, second, &mut output), expected, "{name}, join");
+        assert!(output == after, "{name}, output");
+    }
+}
+
+fn configured(entries: u64, bits: u64) -> ConfigAnswer {
+    ConfigAnswer {
+        number: 0,
+        place: 0,
+        entries,
+        bits,
+    }
+}
+
+fn config_refused(number: u64, place: u64) -> ConfigAnswer {
+    ConfigAnswer {
+        number,
+        place,
+        entries: 0,
+        bits: 0,
+    }
+}
+
+fn config_gives(
+    table: &[u8],
+    addresses: &[u32],
+    before: &[u32],
+    expected: ConfigAnswer,
+    after: &[u32],
+) {
+    for (name, configure) in CONFIGURES {
+        let mut values = before.to_vec();
+        assert_eq!(
+            configure(table, addresses, &mut values),
+            expected,
+            "{name}, configure"
+        );
+        assert_eq!(values, after, "{name}, values");
+    }
+}
+
+fn config_refuses(table: &[u8], addresses: &[u32], values: &[u32], number: u64, place: u64) {
+    let expected = config_refused(number, place);
+    config_gives(table, addresses, values, expected, values);
+}
+
+fn kind(kind: u64, fields: [u64; 6]) -> StrapAnswer {
+    StrapAnswer {
+        number: 0,
+        place: 0,
+        kind,
+        fields,
+    }
+}
+
+fn strap_refused(number: u64) -> StrapAnswer {
+    StrapAnswer {
+        number,
+        place: 0,
+        kind: 0,
+        fields: [0; 6],
+    }
+}
+
+fn strap_gives(value: u32, strict: bool, expected: StrapAnswer) {
+    assert_eq!(calls::strap(value, strict), expected, "library, {value}");
+    assert_eq!(
+        reference::strap(value, strict),
+        expected,
+        "reference, {value}"
+    );
+    if !strict {
+        assert_eq!(calls::strap_short(value), expected, "short, {value}");
+        let label = LabelAnswer {
+            number: expected.number,
+            place: 0,
+            label: expected.kind,
+        };
+        assert_eq!(calls::strap_label(value), label, "label, {value}");
+    }
+}
+
+fn same_gives(first: u32, second: u32, number: u64, same: u64) {
+    let expected = SameAnswer {
+        number,
+        place: 0,
+        same,
+    };
+    assert_eq!(
+        calls::strap_same(first, second),
+        expected,
+        "library, {first} and {second}"
+    );
+    assert_eq!(
+        reference::strap_same(first, second),
+        expected,
+        "reference, {first} and {second}"
+    );
+}
+
+// The bench cards.
+
+#[test]
+fn card_1_table_p_under_map_m() {
+    let after = with(&[(2, 0xA1), (3, 0xA2), (4, 0xA3)]);
+    load_gives(&M, &P, &MEMORY, accepted(0x0080_0000, 1, 1, 3), &after);
+}
+
+#[test]
+fn card_2_p_joined_with_q() {
+    let result = [
+        0, 0x80, 0, 4, 0, 0, 0, 3, 0, 0x80, 0, 2, 0xA1, 0xA2, 0xA3, 0, 0, 0, 0, 1, 0, 0x80, 0, 4,
+        0xB7, 0, 0, 0, 0, 0, 0, 0,
+    ];
+    join_gives(&P, &Q, &[0xEE; 32], joined(32, 2), &result);
+    let after = with(&[(2, 0xA1), (3, 0xA2), (4, 0xB7)]);
+    let answer = accepted(0x0080_0004, 1, 2, 4);
+    load_gives(&M, &result, &MEMORY, answer, &after);
+}
+
+#[test]
+fn card_3_q_joined_with_p() {
+    let result = [
+        0, 0x80, 0, 0, 0, 0, 0, 1, 0, 0x80, 0, 4, 0xB7, 0, 0, 0, 0, 0, 0, 3, 0, 0x80, 0, 2, 0xA1,
+        0xA2, 0xA3, 0, 0, 0, 0, 0,
+    ];
+    join_gives(&Q, &P, &[0xEE; 32], joined(32, 2), &result);
+    let after = with(&[(2, 0xA1), (3, 0xA2), (4, 0xA3)]);
+    let answer = accepted(0x0080_0000, 1, 2, 4);
+    load_gives(&M, &result, &MEMORY, answer, &after);
+}
+
+#[test]
+fn card_4_an_entry_word_and_a_zero_word() {
+    let open = [0, 0x80, 0, 0x0F, 0, 0, 0, 0];
+    let closed = [0, 0x80, 0, 0x10, 0, 0, 0, 0];
+    load_gives(&M, &open, &MEMORY, accepted(0x0080_000F, 1, 0, 0), &MEMORY);
+    load_gives(
+        &M,
+        &closed,
+        &MEMORY,
+        accepted(0x0080_0010, 0, 0, 0),
+        &MEMORY,
+    );
+}
+
+#[test]
+fn card_5_cut_and_lengthened() {
+    load_refuses(&M, &[], &MEMORY, refused(5, 0));
+    load_refuses(&M, &P[..19], &MEMORY, refused(5, 16));
+    for more in [0, 1, 0xFF] {
+        let longer = [&P[..], &[more]].concat();
+        load_refuses(&M, &longer, &MEMORY, refused(7, 20));
+    }
+}
+
+#[test]
+fn card_6_a_pad_byte_that_is_not_zero() {
+    let mut table = P;
+    table[15] = 1;
+    load_refuses(&M, &table, &MEMORY, refused(6, 4));
+}
+
+#[test]
+fn card_7_the_last_address_of_the_map() {
+    let one = table(0, &[(0x0080_000F, &[0xC1])]);
+    let two = table(0, &[(0x0080_000F, &[0xC1, 0xC2])]);
+    let after = with(&[(15, 0xC1)]);
+    load_gives(&M, &one, &MEMORY, accepted(0, 0, 1, 1), &after);
+    load_refuses(&M, &two, &MEMORY, not_open(9, 4, 0x0080_0010));
+}
+
+#[test]
+fn card_8_the_top_address() {
+    let one = table(0, &[(0xFFFF_FFFF, &[0xC1])]);
+    let two = table(0, &[(0xFFFF_FFFF, &[0xC1, 0xC2])]);
+    load_refuses(&M, &one, &MEMORY, not_open(9, 4, 0xFFFF_FFFF));
+    load_refuses(&M, &two, &MEMORY, refused(8, 4));
+    // A map that holds the top address takes size 1.
+    let top = map(&[(1, 0xFFFF_FFF0, 16)]);
+    let after = with(&[(15, 0xC1)]);
+    load_gives(&top, &one, &MEMORY, accepted(0, 0, 1, 1), &after);
+    load_refuses(&top, &two, &MEMORY, refused(8, 4));
+}
+
+#[test]
+fn card_9_set_and_clear() {
+    let table = config(&[(0x0262_0000, 0x30, 0x03)]);
+    config_gives(&table, &[0x0262_0000], &[0x0F], configured(1, 4), &[0x3C]);
+}
+
+#[test]
+fn card_10_a_bit_in_both_masks() {
+    let table = config(&[(0x0262_0000, 1, 1)]);
+    config_gives(&table, &[0x0262_0000], &[0x0F], configured(1, 0), &[0x0F]);
+}
+
+#[test]
+fn card_11_strap_7878() {
+    for strict in [false, true] {
+        strap_gives(7878, strict, kind(7, [3, 1, 1, 1, 2, 0]));
+    }
+}
+
+#[test]
+fn card_12_straps_160_416_64_8192() {
+    let waiting = kind(1, [0, 1, 0, 0, 0, 0]);
+    strap_gives(160, false, waiting);
+    strap_gives(160, true, waiting);
+    strap_gives(416, false, waiting);
+    strap_gives(416, true, strap_refused(19));
+    for strict in [false, true] {
+        strap_gives(64, strict, strap_refused(19));
+        strap_gives(8192, strict, strap_refused(18));
+    }
+}
+
+// What students write first.
+
+#[test]
+fn near_sections_are_not_filled_between() {
+    // Three bytes apart: 2 to 4, then 8 and 9. Places 5 to 7 keep their bytes.
+    let after = with(&[(2, 0xA1), (3, 0xA2), (4, 0xA3), (8, 0xD1), (9, 0xD2)]);
+    let near = table(0x0080_0000, &[(0x0080_0008, &[0xD1, 0xD2])]);
+    let result = table(
+        0x0080_0000,
+        &[
+            (0x0080_0002, &[0xA1, 0xA2, 0xA3]),
+            (0x0080_0008, &[0xD1, 0xD2]),
+        ],
+    );
+    join_gives(&P, &near, &[0xEE; 32], joined(32, 2), &result);
+    let answer = accepted(0x0080_0000, 1, 2, 5);
+    load_gives(&M, &result, &MEMORY, answer, &after);
+}
+
+#[test]
+fn touching_sections_are_not_merged() {
+    let touching = table(0, &[(0x0080_0005, &[0xD1])]);
+    let result = table(
+        0,
+        &[(0x0080_0002, &[0xA1, 0xA2, 0xA3]), (0x0080_0005, &[0xD1])],
+    );
+    join_gives(&P, &touching, &[0xEE; 32], joined(32, 2), &result);
+}
+
+#[test]
+fn pads_are_not_stored() {
+    // P rounded up to four would put 00 at place 5.
+    for (name, _, load) in LOADS {
+        let mut memory = MEMORY;
+        assert_eq!(load(&M, &P, &mut memory).bytes, 3, "{name}");
+        assert_eq!(memory[5], 0x65, "{name}");
+    }
+    // Sizes 1, 2 and 3 that end at the map's last address leave no room for a pad.
+    for size in 1..=3 {
+        let data = &[0xA1, 0xA2, 0xA3][..size];
+        let last = table(0, &[(0x0080_0010 - size as u32, data)]);
+        let mut after = MEMORY;
+        after[16 - size..].copy_from_slice(data);
+        let answer = accepted(0, 0, 1, size as u64);
+        load_gives(&M, &last, &MEMORY, answer, &after);
+    }
+}
+
+#[test]
+fn an_address_does_not_come_round_at_zero() {
+    // In 32 bits 0xFFFFFFFF with size 2 would end at 1, and both bytes are open.
+    let ends = map(&[(1, 0xFFFF_FFFF, 1), (1, 0, 4)]);
+    let two = table(0, &[(0xFFFF_FFFF, &[0xC1, 0xC2])]);
+    load_refuses(&ends, &two, &MEMORY[..5], refused(8, 4));
+    let one = table(0, &[(0xFFFF_FFFF, &[0xC1])]);
+    let after = [0xC1, 0x61, 0x62, 0x63, 0x64];
+    load_gives(&ends, &one, &MEMORY[..5], accepted(0, 1, 1, 1), &after);
+}
+
+#[test]
+fn a_fault_in_the_last_section_leaves_the_first_unstored() {
+    let first: (u32, &[u8]) = (0x0080_0002, &[0xA1, 0xA2, 0xA3]);
+    let closed = table(0, &[first, (0x0080_0010, &[1])]);
+    load_refuses(&M, &closed, &MEMORY, not_open(9, 16, 0x0080_0010));
+    let mut pad = table(0, &[first, (0x0080_0004, &[1])]);
+    pad[27] = 1;
+    load_refuses(&M, &pad, &MEMORY, refused(6, 16));
+    let over = table(0, &[first, (0xFFFF_FFFF, &[1, 2])]);
+    load_refuses(&M, &over, &MEMORY, refused(8, 16));
+    let cut = &table(0, &[first, (0x0080_0004, &[1])])[..27];
+    load_refuses(&M, cut, &MEMORY, refused(5, 16));
+    let longer = [&P[..], &[0]].concat();
+    load_refuses(&M, &longer, &MEMORY, refused(7, 20));
+}
+
+#[test]
+fn a_reserved_hole_in_the_middle_is_found() {
+    let hole = map(&[(1, 0x0080_0000, 16), (2, 0x0080_0003, 1)]);
+    load_refuses(&hole, &P, &MEMORY, not_open(9, 4, 0x0080_0003));
+    // A gap between two permitted records is one too.
+    let gap = map(&[(1, 0x0080_0000, 3), (1, 0x0080_0004, 13)]);
+    load_refuses(&gap, &P, &MEMORY, not_open(9, 4, 0x0080_0003));
+}
+
+#[test]
+fn clear_comes_before_set() {
+    for (name, configure) in CONFIGURES {
+        let mut values = [0x0000_000F];
+        configure(&config(&[(8, 1, 1)]), &[8], &mut values);
+        assert_ne!(values, [0x0000_000E], "{name}");
+        assert_eq!(values, [0x0000_000F], "{name}");
+    }
+}
+
+// Maps.
+
+#[test]
+fn an_empty_map() {
+    map_gives(&[], 0, 0, 0);
+    let none = [0, 0x80, 0, 0, 0, 0, 0, 0];
+    load_gives(&[], &none, &[], accepted(0x0080_0000, 0, 0, 0), &[]);
+    load_refuses(&[], &P, &[], not_open(9, 4, 0x0080_0002));
+    load_refuses(&[], &P, &[7], refused(3, 0));
+}
+
+#[test]
+fn an_empty_table_and_an_empty_memory() {
+    load_refuses(&M, &[], &MEMORY, refused(5, 0));
+    load_refuses(&[], &[], &[], refused(5, 0));
+    load_refuses(&M, &P, &[], refused(3, 0));
+    // 3 comes before the table's faults.
+    load_refuses(&M, &[], &[], refused(3, 0));
+}
+
+#[test]
+fn maps_of_64_records_and_more() {
+    let ones: Vec<(u8, u32, u32)> = (0..65).map(|i| (1, 0x1000 + 2 * i, 1)).collect();
+    map_gives(&map(&ones[..64]), 0, 0, 64);
+    map_gives(&map(&ones), 1, 0, 0);
+    let mut longer = map(&ones[..64]);
+    assert_eq!(longer.len(), 768);
+    longer.push(0x52);
+    map_gives(&longer, 1, 0, 0);
+    load_refuses(&longer, &P, &MEMORY, refused(1, 0));
+    map_gives(&longer[..767], 1, 0, 0);
+    // The last record's byte stands at place 63.
+    let last = table(0, &[(0x1000 + 2 * 63, &[0xC1])]);
+    let before = [0x77; 64];
+    let mut after = before;
+    after[63] = 0xC1;
+    let answer = accepted(0, 0, 1, 1);
+    load_gives(&map(&ones[..64]), &last, &before, answer, &after);
+    // A fault in the last record.
+    let mut wrong = ones[..64].to_vec();
+    wrong[63].2 = 0;
+    map_gives(&map(&wrong), 2, 63, 0);
+}
+
+#[test]
+fn a_map_cut_at_every_length() {
+    let whole = map(&[(1, 0, 5), (2, 0, 2), (1, 5, 6)]);
+    for length in 0..whole.len() {
+        match length {
+            0 => map_gives(&whole[..length], 0, 0, 0),
+            12 | 24 => map_gives(&whole[..length], 0, 0, 5),
+            _ => map_gives(&whole[..length], 1, 0, 0),
+        }
+    }
+    map_gives(&whole, 0, 0, 11);
+}
+
+#[test]
+fn records_with_one_field_wrong() {
+    for kind in [1, 2] {
+        let sum = if kind == 1 { 20 } else { 16 };
+        let around = |middle: &[u8]| [&M[..], middle, &record(1, 0x100, 0)].concat();
+        let right = record(kind, 0x0090_0000, 4);
+        map_gives(&[&M[..], &right].concat(), 0, 0, sum);
+        // The third record is at fault too; the first fault is answered.
+        map_gives(&around(&right), 2, 2, 0);
+        for (at, allowed) in [
+            (0, vec![0x52]),
+            (1, vec![0x47]),
+            (2, vec![1, 2]),
+            (3, vec![0]),
+        ] {
+            for byte in 0..=255 {
+                let mut middle = right.clone();
+                middle[at] = byte;
+                let place = if allowed.contains(&byte) { 2 } else { 1 };
+                map_gives(&around(&middle), 2, place, 0);
+                if place == 1 {
+                    load_refuses(&around(&middle), &P, &MEMORY, refused(2, 1));
+                }
+            }
+        }
+        map_gives(&around(&record(kind, 0x0090_0000, 0)), 2, 1, 0);
+        map_gives(&around(&record(kind, 0, 0)), 2, 1, 0);
+        map_gives(&around(&record(kind, 0xFFFF_FFFF, 2)), 2, 1, 0);
+        map_gives(&around(&record(kind, 0xFFFF_FFFF, 0xFFFF_FFFF)), 2, 1, 0);
+        map_gives(&record(kind, 2, 0xFFFF_FFFF), 2, 0, 0);
+        map_gives(&record(kind, 0x8000_0000, 0x8000_0001), 2, 0, 0);
+    }
+}
+
+#[test]
+fn permitted_records_touching_overlapping_equal() {
+    map_gives(&map(&[(1, 100, 10), (1, 110, 5)]), 0, 0, 15);
+    map_gives(&map(&[(1, 110, 5), (1, 100, 10)]), 0, 0, 15);
+    map_gives(&map(&[(1, 100, 10), (1, 109, 5)]), 2, 1, 0);
+    map_gives(&map(&[(1, 109, 5), (1, 100, 10)]), 2, 1, 0);
+    map_gives(&map(&[(1, 100, 10), (1, 100, 10)]), 2, 1, 0);
+    map_gives(&map(&[(1, 100, 10), (1, 104, 1)]), 2, 1, 0);
+    map_gives(&map(&[(1, 104, 1), (1, 100, 10)]), 2, 1, 0);
+    // Not the neighbour but the first of three.
+    map_gives(&map(&[(1, 100, 10), (1, 200, 10), (1, 95, 6)]), 2, 2, 0);
+    map_gives(&map(&[(1, 100, 10), (1, 200, 10), (1, 95, 5)]), 0, 0, 25);
+    // A reserved record between them takes no part in this.
+    map_gives(&map(&[(1, 100, 10), (2, 100, 10), (1, 110, 1)]), 0, 0, 11);
+}
+
+#[test]
+fn permitted_records_that_end_at_the_top() {
+    map_gives(&map(&[(1, 0xFFFF_FFFF, 1)]), 0, 0, 1);
+    map_gives(&map(&[(1, 1, 0xFFFF_FFFF)]), 0, 0, 0xFFFF_FFFF);
+    // All addresses: the sum is 2^32.
+    let all = map(&[(1, 1, 0xFFFF_FFFF), (1, 0, 1)]);
+    map_gives(&all, 0, 0, 0x1_0000_0000);
+    load_refuses(&all, &P, &MEMORY, refused(3, 0));
+    for (name, judge, _) in LOADS {
+        assert_eq!(judge(&all, &P), accepted(0x0080_0000, 1, 1, 3), "{name}");
+    }
+    map_gives(&map(&[(1, 1, 0xFFFF_FFFF), (1, 0, 2)]), 2, 1, 0);
+}
+
+#[test]
+fn reserved_records_over_everything() {
+    let over = map(&[
+        (2, 0, 0xFFFF_FFFF),
+        (1, 0x0080_0000, 16),
+        (2, 0xFFFF_FFFF, 1),
+        (2, 0, 0xFFFF_FFFF),
+    ]);
+    map_gives(&over, 0, 0, 16);
+    load_refuses(&over, &P, &MEMORY, not_open(9, 4, 0x0080_0002));
+    let none = table(0x0080_0000, &[]);
+    load_gives(
+        &over,
+        &none,
+        &MEMORY,
+        accepted(0x0080_0000, 0, 0, 0),
+        &MEMORY,
+    );
+    // Reserved records alone ask for no memory.
+    map_gives(&map(&[(2, 0, 0xFFFF_FFFF), (2, 5, 5)]), 0, 0, 0);
+}
+
+// Boot tables.
+
+#[test]
+fn a_table_cut_at_every_length() {
+    for length in 0..20 {
+        let place = match length {
+            0..=3 => 0,
+            4..=15 => 4,
+            _ => 16,
+        };
+        load_refuses(&M, &P[..length], &MEMORY, refused(5, place));
+    }
+    let two = table(
+        0,
+        &[(0x0080_0002, &[0xA1, 0xA2, 0xA3]), (0x0080_0004, &[0xB7])],
+    );
+    assert_eq!(two.len(), 32);
+    for length in 0..32 {
+        let place = match length {
+            0..=3 => 0,
+            4..=15 => 4,
+            16..=27 => 16,
+            _ => 28,
+        };
+        load_refuses(&M, &two[..length], &MEMORY, refused(5, place));
+    }
+}
+
+#[test]
+fn a_size_word_larger_than_the_table() {
+    for size in [
+        4u32,
+        5,
+        8,
+        0x7FFF_FFFF,
+        0xFFFF_FFF8,
+        0xFFFF_FFFD,
+        0xFFFF_FFFF,
+    ] {
+        let mut bytes = P;
+        bytes[4..8].copy_from_slice(&size.to_be_bytes());
+        // Size 4 takes the pad byte as data. With 5 to 8 the section takes the
+        // end word too, and the end word at 20 is missing.
+        let expected = match size {
+            4 => accepted(0x0080_0000, 1, 1, 4),
+            5 | 8 => refused(5, 20),
+            _ => refused(5, 4),
+        };
+        let after = match size {
+            4 => with(&[(2, 0xA1), (3, 0xA2), (4, 0xA3), (5, 0)]),
+            _ => MEMORY.to_vec(),
+        };
+        load_gives(&M, &bytes, &MEMORY, expected, &after);
+    }
+    // In one section 5 comes before 8: the address would run past the top.
+    let mut bytes = P;
+    bytes[4..12].fill(0xFF);
+    load_refuses(&M, &bytes, &MEMORY, refused(5, 4));
+}
+
+#[test]
+fn an_address_over_the_top_comes_before_a_pad() {
+    let mut bytes = table(0, &[(0xFFFF_FFFE, &[1, 2, 3])]);
+    bytes[15] = 9;
+    load_refuses(&M, &bytes, &MEMORY, refused(8, 4));
+    bytes[8..12].copy_from_slice(&0xFFFF_FFFDu32.to_be_bytes());
+    load_refuses(&M, &bytes, &MEMORY, refused(6, 4));
+    bytes[15] = 0;
+    load_refuses(&M, &bytes, &MEMORY, not_open(9, 4, 0xFFFF_FFFD));
+}
+
+#[test]
+fn a_size_one_off_at_the_top() {
+    // The largest size that the top allows, and one more.
+    for (address, size, fits) in [
+        (0xFFFF_FFFF, 1, true),
+        (0xFFFF_FFFF, 2, false),
+        (0xFFFF_FFFC, 4, true),
+        (0xFFFF_FFFC, 5, false),
+    ] {
+        let bytes = table(0, &[(address, &vec![0x3C; size])]);
+        let expected = match fits {
+            true => not_open(9, 4, u64::from(address)),
+            false => refused(8, 4),
+        };
+        load_refuses(&M, &bytes, &MEMORY, expected);
+    }
+}
+
+#[test]
+fn each_pad_byte_is_looked_at() {
+    for size in 1..=4 {
+        let right = table(0, &[(0x0080_0000, &vec![0xFF; size])]);
+        for at in 12 + size..right.len() - 4 {
+            for bit in 0..8 {
+                let mut bytes = right.clone();
+                bytes[at] = 1 << bit;
+                load_refuses(&M, &bytes, &MEMORY, refused(6, 4));
+            }
+        }
+        let mut after = MEMORY;
+        after[..size].fill(0xFF);
+        load_gives(&M, &right, &MEMORY, accepted(0, 0, 1, size as u64), &after);
+    }
+}
+
+#[test]
+fn form_comes_before_the_map_rule() {
+    // The first section is not open, the second has a pad that is not zero.
+    let mut bytes = table(0, &[(0x0070_0000, &[1]), (0x0080_0000, &[2])]);
+    load_refuses(&M, &bytes, &MEMORY, not_open(9, 4, 0x0070_0000));
+    bytes[27] = 1;
+    load_refuses(&M, &bytes, &MEMORY, refused(6, 16));
+    // The first fault in table order: 6 in the first, 8 in the second.
+    let mut bytes = table(0, &[(0x0080_0000, &[1]), (0xFFFF_FFFF, &[2, 3])]);
+    bytes[13] = 1;
+    load_refuses(&M, &bytes, &MEMORY, refused(6, 4));
+}
+
+#[test]
+fn the_map_comes_before_memory_and_table() {
+    let wrong = map(&[(1, 0x0080_0000, 0)]);
+    load_refuses(&wrong, &[], &[], refused(2, 0));
+    load_refuses(&wrong, &P, &MEMORY, refused(2, 0));
+    load_refuses(&M[..11], &[], &[], refused(1, 0));
+}
+
+#[test]
+fn memory_one_byte_short_and_one_long() {
+    load_refuses(&M, &P, &MEMORY[..15], refused(3, 0));
+    let long = [&MEMORY[..], &[0x70]].concat();
+    load_refuses(&M, &P, &long, refused(3, 0));
+}
+
+#[test]
+fn a_section_across_two_touching_records() {
+    // The higher record comes first in the map, so its bytes come first in memory.
+    let falling = map(&[(1, 0x0080_0008, 8), (1, 0x0080_0000, 8)]);
+    let across = table(0x0080_0007, &[(0x0080_0006, &[0xD0, 0xD1, 0xD2, 0xD3])]);
+    let after = with(&[(14, 0xD0), (15, 0xD1), (0, 0xD2), (1, 0xD3)]);
+    let answer = accepted(0x0080_0007, 1, 1, 4);
+    load_gives(&falling, &across, &MEMORY, answer, &after);
+    // Over all of both.
+    let data: Vec<u8> = (0x80..0x90).collect();
+    let whole = table(0, &[(0x0080_0000, &data)]);
+    let after = [&data[8..], &data[..8]].concat();
+    load_gives(&falling, &whole, &MEMORY, accepted(0, 0, 1, 16), &after);
+    // A reserved record between the permitted ones takes no place in memory.
+    let between = map(&[(1, 0x0080_0008, 8), (2, 0, 9), (1, 0x0080_0000, 8)]);
+    load_gives(&between, &whole, &MEMORY, accepted(0, 0, 1, 16), &after);
+}
+
+#[test]
+fn the_later_section_wins() {
+    let shared = table(
+        0,
+        &[
+            (0x0080_0004, &[1, 1, 1, 1]),
+            (0x0080_0002, &[2, 2, 2]),
+            (0x0080_0006, &[3]),
+            (0x0080_0004, &[4]),
+        ],
+    );
+    let after = with(&[(2, 2), (3, 2), (4, 4), (5, 1), (6, 3), (7, 1)]);
+    load_gives(&M, &shared, &MEMORY, accepted(0, 0, 4, 9), &after);
+}
+
+#[test]
+fn boot_tables_at_and_over_the_limit() {
+    let data = vec![0xC4; TABLE_LIMIT - 16];
+    let mut large = table(0, &[(0x2000_0000, &data)]);
+    assert_eq!(large.len(), TABLE_LIMIT);
+    let wide = map(&[(1, 0x2000_0000, TABLE_LIMIT as u32 - 16)]);
+    for (name, judge, load) in LOADS {
+        let answer = accepted(0, 0, 1, TABLE_LIMIT as u64 - 16);
+        assert_eq!(judge(&wide, &large), answer, "{name}");
+        let mut memory = vec![0x11; TABLE_LIMIT - 16];
+        assert_eq!(load(&wide, &large, &mut memory), answer, "{name}");
+        assert!(memory == data, "{name}");
+    }
+    large.push(0);
+    load_refuses(&M, &large, &MEMORY, refused(4, 0));
+    // As many sections of one byte as the limit takes.
+    let count = (TABLE_LIMIT - 8) / 12;
+    let mut many = vec![0; 4];
+    for i in 0..count {
+        many.extend(section(0x0080_0000 + (i % 16) as u32, &[(i % 251) as u8]));
+    }
+    many.extend([0; 4]);
+    let mut after = [0; 16];
+    for i in count - 16..count {
+        after[i % 16] = (i % 251) as u8;
+    }
+    let answer = accepted(0, 0, count as u64, count as u64);
+    load_gives(&M, &many, &MEMORY, answer, &after);
+}
+
+// The join.
+
+#[test]
+fn join_outputs_exact_short_empty_and_longer() {
+    let result = [&Q[..4], &P[4..16], &Q[4..20]].concat();
+    join_gives(&P, &Q, &[0xEE; 32], joined(32, 2), &result);
+    for length in 0..32 {
+        let output = vec![0xEE; length];
+        join_gives(&P, &Q, &output, join_refused(11, 0, 0), &output);
+    }
+    for more in [1, 2, 3, 4, 100] {
+        let after = [&result[..], &vec![0xEE; more]].concat();
+        join_gives(&P, &Q, &vec![0xEE; 32 + more], joined(32, 2), &after);
+    }
+}
+
+#[test]
+fn joins_with_a_table_without_sections() {
+    let none = table(0x0090_0000, &[]);
+    join_gives(&none, &P, &[0xEE; 20], joined(20, 1), &P);
+    let mut entry_changed = P;
+    entry_changed[..4].copy_from_slice(&[0, 0x90, 0, 0]);
+    join_gives(&P, &none, &[0xEE; 20], joined(20, 1), &entry_changed);
+    join_gives(&table(1, &[]), &none, &[0xEE; 8], joined(8, 0), &none);
+}
+
+#[test]
+fn joins_of_damaged_tables() {
+    let mut pad = P;
+    pad[14 + 1] = 7;
+    let over = table(0, &[(0xFFFF_FFFF, &[1, 2])]);
+    let longer = [&P[..], &[0, 0]].concat();
+    let faults: [(&[u8], u64, u64); 6] = [
+        (&[], 5, 0),
+        (&P[..19], 5, 16),
+        (&P[..7], 5, 4),
+        (&pad, 6, 4),
+        (&longer, 7, 20),
+        (&over, 8, 4),
+    ];
+    let output = [0xEE; 64];
+    for (one, number, place) in faults {
+        join_gives(one, &Q, &output, join_refused(number, place, 1), &output);
+        join_gives(&Q, one, &output, join_refused(number, place, 2), &output);
+        // The tables' faults come before 11.
+        join_gives(&Q, one, &[], join_refused(number, place, 2), &[]);
+        // Both damaged: the first's fault is answered.
+        for (two, _, _) in faults {
+            join_gives(one, two, &output, join_refused(number, place, 1), &output);
+        }
+    }
+}
+
+#[test]
+fn joins_at_the_limit_and_over() {
+    let data = vec![0xC4; TABLE_LIMIT - 16 - 12];
+    let first = table(1, &[(0x2000_0000, &data)]);
+    assert_eq!(first.len(), TABLE_LIMIT - 12);
+    let one = table(2, &[(0x3000_0000, &[0xD1])]);
+    let two = table(3, &[(0x3000_0000, &[0xD1]), (0x3000_0001, &[0xD2])]);
+    // At the limit, both ways.
+    let result = table(2, &[(0x2000_0000, &data), (0x3000_0000, &[0xD1])]);
+    assert_eq!(result.len(), TABLE_LIMIT);
+    let answer = joined(TABLE_LIMIT as u64, 2);
+    let output = vec![0xEE; TABLE_LIMIT];
+    join_gives(&first, &one, &output, answer, &result);
+    let result = table(1, &[(0x3000_0000, &[0xD1]), (0x2000_0000, &data)]);
+    join_gives(&one, &first, &output, answer, &result);
+    // One byte too short for it.
+    let short = &output[1..];
+    join_gives(&first, &one, short, join_refused(11, 0, 0), short);
+    // One section over, with an output that would hold it, and with none: 10
+    // comes before 11.
+    let output = vec![0xEE; TABLE_LIMIT + 12];
+    join_gives(&first, &two, &output, join_refused(10, 0, 0), &output);
+    join_gives(&two, &first, &output, join_refused(10, 0, 0), &output);
+    join_gives(&first, &two, &[], join_refused(10, 0, 0), &[]);
+    // Over the limit alone: 4, in the table that is.
+    let mut large = table(1, &[(0x2000_0000, &vec![0; TABLE_LIMIT - 16])]);
+    large.push(0);
+    join_gives(&large, &one, &[], join_refused(4, 0, 1), &[]);
+    join_gives(&one, &large, &[], join_refused(4, 0, 2), &[]);
+    join_gives(&P[..3], &large, &[], join_refused(5, 0, 1), &[]);
+}
+
+// Configuration tables.
+
+#[test]
+fn register_lists_of_different_lengths() {
+    let end = config(&[]);
+    config_refuses(&end, &[1, 2], &[7], 12, 0);
+    config_refuses(&end, &[1], &[7, 8], 12, 0);
+    config_refuses(&end, &[], &[7], 12, 0);
+    config_refuses(&end, &[1], &[], 12, 0);
+    // 12 comes before the table's faults.
+    config_refuses(&[], &[1], &[], 12, 0);
+    config_refuses(&vec![0; 49_153], &[1], &[], 12, 0);
+}
+
+#[test]
+fn register_lists_of_1024_and_1025() {
+    let addresses: Vec<u32> = (0..1025).map(|i| 4 * i).collect();
+    let values: Vec<u32> = (0..1025).map(|i| i << 8).collect();
+    let table = config(&[(4 * 1023, 1, 0), (0, 2, 0)]);
+    let mut after = values[..1024].to_vec();
+    after[1023] |= 1;
+    after[0] |= 2;
+    config_gives(
+        &table,
+        &addresses[..1024],
+        &values[..1024],
+        configured(2, 2),
+        &after,
+    );
+    config_refuses(&table, &addresses, &values, 12, 0);
+}
+
+#[test]
+fn register_addresses_must_rise() {
+    let end = config(&[]);
+    let values = [7, 8, 9];
+    config_refuses(&end, &[4, 4, 8], &values, 12, 0);
+    config_refuses(&end, &[4, 8, 8], &values, 12, 0);
+    config_refuses(&end, &[8, 4, 12], &values, 12, 0);
+    config_refuses(&end, &[4, 12, 8], &values, 12, 0);
+    config_refuses(&end, &[0xFFFF_FFFF, 0, 1], &values, 12, 0);
+    config_gives(
+        &end,
+        &[0, 1, 0xFFFF_FFFF],
+        &values,
+        configured(0, 0),
+        &values,
+    );
+}
+
+#[test]
+fn empty_register_lists() {
+    config_refuses(&[], &[], &[], 14, 0);
+    config_gives(&config(&[]), &[], &[], configured(0, 0), &[]);
+    config_refuses(&config(&[(4, 1, 0)]), &[], &[], 16, 0);
+    config_refuses(&config(&[(0, 1, 0)]), &[], &[], 16, 0);
+    config_refuses(&config(&[(4, 0, 0)]), &[], &[], 17, 0);
+}
+
+#[test]
+fn configuration_tables_cut_at_every_length() {
+    let table = config(&[(4, 1, 0), (8, 0, 1)]);
+    assert_eq!(table.len(), 36);
+    for length in 0..36 {
+        let place = length as u64 / 12 * 12;
+        config_refuses(&table[..length], &[4, 8], &[0, 1], 14, place);
+    }
+    config_gives(&table, &[4, 8], &[0, 1], configured(2, 2), &[1, 0]);
+}
+
+#[test]
+fn configuration_tables_at_and_over_the_limit() {
+    let mut table = entries(&[(4, 1, 0)]).repeat(4095);
+    table.extend([0; 12]);
+    assert_eq!(table.len(), 49_152);
+    config_gives(&table, &[4], &[0], configured(4095, 1), &[1]);
+    table.push(0);
+    config_refuses(&table, &[4], &[0], 13, 0);
+    // At the limit with no end entry.
+    let table = entries(&[(4, 1, 0)]).repeat(4096);
+    config_refuses(&table, &[4], &[0], 14, 49_152);
+    // 13 comes before the faults of entries.
+    let table = entries(&[(5, 1, 0)]).repeat(4097);
+    config_refuses(&table, &[4], &[0], 13, 0);
+}
+
+#[test]
+fn the_end_entry_missing_in_the_middle_and_twice() {
+    let one = (4, 1, 0);
+    config_refuses(&entries(&[one]), &[4], &[0], 14, 12);
+    config_refuses(&entries(&[one, (0, 0, 0), one]), &[4], &[0], 15, 24);
+    config_refuses(&config(&[one, (0, 0, 0), one]), &[4], &[0], 15, 24);
+    config_refuses(&config(&[(0, 0, 0)]), &[4], &[0], 15, 12);
+    for more in 1..=12 {
+        let mut longer = config(&[one]);
+        longer.extend(vec![0; more]);
+        config_refuses(&longer, &[4], &[0], 15, 24);
+    }
+    // What stands after the end entry is not read as entries.
+    config_refuses(
+        &config(&[(0, 0, 0), (9, 1, 0), (4, 0, 0)]),
+        &[4],
+        &[0],
+        15,
+        12,
+    );
+}
+
+#[test]
+fn a_branch_before_and_after_an_unknown_register() {
+    let (branch, unknown, known) = ((4, 0, 0), (5, 1, 0), (4, 1, 0));
+    config_refuses(&config(&[known, branch, unknown]), &[4], &[0], 17, 12);
+    config_refuses(&config(&[known, unknown, branch]), &[4], &[0], 16, 12);
+    // One entry that is both: the branch is answered.
+    config_refuses(&config(&[known, (5, 0, 0)]), &[4], &[0], 17, 12);
+    // A fault before a cut entry.
+    config_refuses(&entries(&[unknown, known])[..23], &[4], &[0], 16, 0);
+    config_refuses(&entries(&[branch, known])[..23], &[4], &[0], 17, 0);
+    config_refuses(&entries(&[known, unknown])[..23], &[4], &[0], 14, 12);
+}
+
+#[test]
+fn address_zero_with_a_mask_is_an_entry() {
+    config_gives(&config(&[(0, 6, 0)]), &[0], &[1], configured(1, 2), &[7]);
+    config_gives(&config(&[(0, 0, 1)]), &[0], &[1], configured(1, 1), &[0]);
+    config_refuses(&config(&[(0, 6, 0)]), &[4], &[1], 16, 0);
+}
+
+#[test]
+fn bits_are_counted_between_before_and_after_the_whole_table() {
+    // Set and taken back: four entries, no bit differs.
+    let back = [(4, 0xFF, 0), (4, 0, 0xFF), (8, 0, 1), (8, 1, 0)];
+    config_gives(&config(&back), &[4, 8], &[0, 1], configured(4, 0), &[0, 1]);
+    // All bits of three registers.
+    let all = [
+        (4, 0xFFFF_FFFF, 0),
+        (8, 0, 0xFFFF_FFFF),
+        (12, 0xFFFF_0000, 0x0000_FFFF),
+    ];
+    config_gives(
+        &config(&all),
+        &[4, 8, 12],
+        &[0, 0xFFFF_FFFF, 0x0000_FFFF],
+        configured(3, 96),
+        &[0xFFFF_FFFF, 0, 0xFFFF_0000],
+    );
+}
+
+// Strap values.
+
+#[test]
+fn each_kind_with_its_fields() {
+    for strict in [false, true] {
+        strap_gives(0, strict, kind(0, [0; 6]));
+        // SR 3, wait, clock select 5.
+        strap_gives(0b1_0100_1001_1000, strict, kind(0, [3, 1, 5, 0, 0, 0]));
+        strap_gives(0b1_0100_0011_0000, strict, kind(1, [2, 0, 5, 0, 0, 0]));
+        // Device, bits 9:3, clock select.
+        strap_gives(
+            0b0_1110_1000_1001,
+            strict,
+            kind(2, [1, 0b101_0001, 3, 0, 0, 0]),
+        );
+        strap_gives(8191, strict, kind(2, [7, 127, 7, 0, 0, 0]));
+        // Device, multiplier 2, connection 1, device ID 5, clock select 6.
+        strap_gives(0b1_1010_0110_1010, strict, kind(3, [2, 2, 1, 5, 6, 0]));
+        strap_gives(0b1_1010_0110_1011, strict, kind(3, [3, 2, 1, 5, 6, 0]));
+        // BAR 9, SR 1, clock select 4.
+        strap_gives(0b1_0001_0010_1100, strict, kind(4, [9, 1, 4, 0, 0, 0]));
+        // Bits 12:3 as a number.
+        strap_gives(
+            0b1_0110_1001_1101,
+            strict,
+            kind(5, [0b10_1101_0011, 0, 0, 0, 0, 0]),
+        );
+        // Passive, address 5.
+        strap_gives(0b0_0011_1010_0101, strict, kind(6, [5, 0, 0, 0, 0, 0]));
+        // Mode 1, four-pin, 24-bit, chip select 2, table 1, SR 3.
+        strap_gives(0b0_1011_0011_1110, strict, kind(7, [1, 0, 1, 2, 1, 3]));
+    }
+}
+
+#[test]
+fn reserved_bits_in_both_manners() {
+    // Device 0, bits 9:8.
+    for bits in 1..=3 {
+        strap_gives(bits << 8, true, strap_refused(19));
+        strap_gives(bits << 8, false, kind(0, [0; 6]));
+    }
+    // PCIe, bit 9.
+    strap_gives(4 | 1 << 9, true, strap_refused(19));
+    strap_gives(4 | 1 << 9, false, kind(4, [0; 6]));
+    // Passive I2C, bit 9 one and bits 4:3 zero.
+    let passive = 5 | 1 << 8;
+    strap_gives(passive, true, strap_refused(19));
+    strap_gives(passive | 1 << 9, true, kind(6, [0; 6]));
+    for low in 1..=3 {
+        strap_gives(passive | 1 << 9 | low << 3, true, strap_refused(19));
+        strap_gives(passive | low << 3, false, kind(6, [0; 6]));
+    }
+    // Sub-modes 2 and 3 in either manner.
+    for strict in [false, true] {
+        strap_gives(2 << 5, strict, strap_refused(19));
+        strap_gives(3 << 5, strict, strap_refused(19));
+    }
+}
+
+#[test]
+fn all_strap_values() {
+    // Of each kind so many, and so many refused; counted from the bits.
+    let mut lenient = [0; 9];
+    let mut strict = [0; 9];
+    for value in 0..8192 {
+        strap_gives(value, false, reference::strap(value, false));
+        strap_gives(value, true, reference::strap(value, true));
+        for (manner, counts) in [(false, &mut lenient), (true, &mut strict)] {
+            let answer = calls::strap(value, manner);
+            let column = if answer.number == 0 { answer.kind } else { 8 };
+            counts[column as usize] += 1;
+        }
+    }
+    assert_eq!(lenient, [256, 256, 2048, 2048, 1024, 512, 512, 1024, 512]);
+    assert_eq!(strict, [64, 64, 2048, 2048, 512, 512, 64, 1024, 1856]);
+    for value in [8192, 8193, 16_384, 0x8000_0000, 0xFFFF_E000, 0xFFFF_FFFF] {
+        for manner in [false, true] {
+            strap_gives(value, manner, strap_refused(18));
+        }
+    }
+}
+
+#[test]
+fn same_straps() {
+    same_gives(160, 160, 0, 1);
+    // Bits that the lenient manner ignores.
+    same_gives(160, 416, 0, 1);
+    same_gives(4, 4 | 1 << 9, 0, 1);
+    same_gives(5 | 1 << 8, 5 | 1 << 8 | 1 << 9 | 3 << 3 | 7 << 10, 0, 1);
+    // One kind, other fields; other kinds with equal fields.
+    same_gives(160, 32, 0, 0);
+    same_gives(2, 3, 0, 0);
+    same_gives(1, 7, 0, 0);
+    same_gives(0, 32, 0, 0);
+    same_gives(0, 4, 0, 0);
+    same_gives(5, 5 | 1 << 8, 0, 0);
+    // The first value's refusal comes before the second's.
+    same_gives(8192, 64, 18, 0);
+    same_gives(64, 8192, 19, 0);
+    same_gives(160, 64, 19, 0);
+    same_gives(160, 8192, 18, 0);
+    same_gives(64, 160, 19, 0);
+    same_gives(0xFFFF_FFFF, 0xFFFF_FFFF, 18, 0);
+}
+
+#[test]
+fn same_straps_on_many_pairs() {
+    let mut numbers = Numbers::new(cases::seed(), 20);
+    let mut equal = 0;
+    for first in 0..8200 {
+        for round in 0..40 {
+            let second = match round {
+                0 => first,
+                1..=14 => first ^ (1 << (round - 1)),
+                _ => cases::strap_value(&mut numbers),
+            };
+            let answer = calls::strap_same(first, second);
+            assert_eq!(
+                answer,
+                reference::strap_same(first, second),
+                "{first} and {second}"
+            );
+            equal += answer.same;
+        }
+    }
+    // At least each accepted value with itself.
+    assert!(equal >= 8192 - 512, "{equal} equal pairs");
+}
