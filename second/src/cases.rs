@@ -2,7 +2,7 @@
 //! from one seed. The variable TUNEHARBOR_SEED changes the seed and
 //! TUNEHARBOR_CASES the count of generated cases.
 
-use crate::reference::{CONFIG_LIMIT, TOP};
+use crate::reference::{self, CONFIG_LIMIT, TOP};
 
 /// The seed where TUNEHARBOR_SEED names no other.
 pub const SEED: u64 = 20_261_115;
@@ -158,13 +158,13 @@ fn set_word(bytes: &mut [u8], at: usize, value: u32) {
 
 /// A generated map and the runs of its permitted records in map order.
 #[derive(Clone, Debug)]
-pub struct Ground {
+pub struct Regions {
     pub map: Vec<u8>,
     /// First address and length of each permitted record.
     pub runs: Vec<(u64, u64)>,
 }
 
-impl Ground {
+impl Regions {
     /// All permitted lengths together.
     pub fn memory_size(&self) -> u64 {
         self.runs.iter().map(|run| run.1).sum()
@@ -173,7 +173,7 @@ impl Ground {
 
 /// A sound map: short permitted records that touch or lie near each other, in
 /// rising, falling or mixed order, with reserved records as holes in them.
-pub fn sound_map(numbers: &mut Numbers) -> Ground {
+pub fn sound_map(numbers: &mut Numbers) -> Regions {
     let everything = numbers.once_in(40);
     let full = numbers.once_in(30);
     let wanted = match numbers.below(20) {
@@ -247,15 +247,15 @@ pub fn sound_map(numbers: &mut Numbers) -> Ground {
             records.insert(at, record(2, 0xFFFF_FFFF, 1));
         }
     }
-    Ground {
+    Regions {
         map: records.concat(),
         runs,
     }
 }
 
 /// One damage to a map.
-fn damage_map(numbers: &mut Numbers, ground: &mut Ground) {
-    let map = &mut ground.map;
+fn damage_map(numbers: &mut Numbers, regions: &mut Regions) {
+    let map = &mut regions.map;
     let count = map.len() / 12;
     if count > 0 && !numbers.once_in(4) {
         let at = numbers.index(count) * 12;
@@ -283,8 +283,8 @@ fn damage_map(numbers: &mut Numbers, ground: &mut Ground) {
                 map.extend(copy);
             }
             8 => {
-                // A permitted record that touches, overlaps by one or overlaps
-                // the last address of another.
+                // A permitted record that touches another, or overlaps its last
+                // or its first address.
                 let end = first.wrapping_add(length);
                 let start = numbers.pick(&[end, end.wrapping_sub(1), first.wrapping_sub(1)]);
                 let size = numbers.pick(&[1, 2, 5]);
@@ -334,50 +334,50 @@ fn damage_map(numbers: &mut Numbers, ground: &mut Ground) {
 
 /// One section of a generated table, with zero pads.
 #[derive(Clone, Debug, PartialEq, Eq)]
-pub struct Piece {
+pub struct Section {
     pub address: u32,
     pub data: Vec<u8>,
 }
 
-/// The bytes of a table of pieces.
-pub fn table_of(entry: u32, pieces: &[Piece]) -> Vec<u8> {
-    let list: Vec<(u32, &[u8])> = pieces
+/// The bytes of a table of sections.
+pub fn table_of(entry: u32, sections: &[Section]) -> Vec<u8> {
+    let list: Vec<(u32, &[u8])> = sections
         .iter()
-        .map(|piece| (piece.address, &piece.data[..]))
+        .map(|section| (section.address, &section.data[..]))
         .collect();
     table(entry, &list)
 }
 
 /// A section whose addresses are in one permitted record, or `None` where the
 /// map has none.
-pub fn inside(numbers: &mut Numbers, ground: &Ground) -> Option<Piece> {
-    if ground.runs.is_empty() {
+pub fn inside(numbers: &mut Numbers, regions: &Regions) -> Option<Section> {
+    if regions.runs.is_empty() {
         return None;
     }
-    let (first, length) = numbers.pick(&ground.runs);
+    let (first, length) = numbers.pick(&regions.runs);
     let skip = numbers.below(length.min(64));
     let size = numbers.from_to(1, (length - skip).min(24));
-    Some(Piece {
+    Some(Section {
         address: (first + skip) as u32,
         data: numbers.bytes(size as usize),
     })
 }
 
 /// A section that may lie anywhere but does not run past the top.
-fn anywhere(numbers: &mut Numbers, ground: &Ground, before: Option<&Piece>) -> Piece {
+fn anywhere(numbers: &mut Numbers, regions: &Regions, before: Option<&Section>) -> Section {
     let mut size = numbers.from_to(1, 13);
     let random = u64::from(numbers.word());
     let address = match (numbers.below(5), before) {
         // Near or touching the section before.
-        (0, Some(piece)) => {
-            let end = u64::from(piece.address) + piece.data.len() as u64;
+        (0, Some(section)) => {
+            let end = u64::from(section.address) + section.data.len() as u64;
             end + numbers.pick(&[0, 0, 1, 3, 15, 16])
         }
         // Overlapping the section before.
-        (1, Some(piece)) => u64::from(piece.address) + numbers.below(piece.data.len() as u64),
+        (1, Some(section)) => u64::from(section.address) + numbers.below(section.data.len() as u64),
         // Across the end of a permitted record.
-        (2 | 3, _) if !ground.runs.is_empty() => {
-            let (first, length) = numbers.pick(&ground.runs);
+        (2 | 3, _) if !regions.runs.is_empty() => {
+            let (first, length) = numbers.pick(&regions.runs);
             let end = first + length;
             size += 1;
             end.saturating_sub(numbers.from_to(1, size))
@@ -386,49 +386,49 @@ fn anywhere(numbers: &mut Numbers, ground: &Ground, before: Option<&Piece>) -> P
     };
     let address = address.min(TOP - 1);
     let size = size.min(TOP - address);
-    Piece {
+    Section {
         address: address as u32,
         data: numbers.bytes(size as usize),
     }
 }
 
-/// The pieces of a well-formed table: most lie in the map, some lie anywhere.
-pub fn pieces(numbers: &mut Numbers, ground: &Ground) -> Vec<Piece> {
+/// The sections of a well-formed table: most lie in the map, some lie anywhere.
+pub fn sections(numbers: &mut Numbers, regions: &Regions) -> Vec<Section> {
     let wanted = match numbers.below(60) {
         0 => numbers.from_to(20, 120),
         1..=5 => 0,
         _ => numbers.from_to(1, 6),
     };
     let wild = numbers.pick(&[4, 12, 1000]);
-    let mut list: Vec<Piece> = Vec::new();
+    let mut list: Vec<Section> = Vec::new();
     for _ in 0..wanted {
-        let piece = match inside(numbers, ground) {
-            Some(piece) if !numbers.once_in(wild) => piece,
-            _ => anywhere(numbers, ground, list.last()),
+        let section = match inside(numbers, regions) {
+            Some(section) if !numbers.once_in(wild) => section,
+            _ => anywhere(numbers, regions, list.last()),
         };
-        list.push(piece);
+        list.push(section);
     }
     list
 }
 
 /// An entry word: in the map, at an edge, or anywhere.
-pub fn entry(numbers: &mut Numbers, ground: &Ground) -> u32 {
-    if !ground.runs.is_empty() && numbers.once_in(2) {
-        let (first, length) = numbers.pick(&ground.runs);
+pub fn entry(numbers: &mut Numbers, regions: &Regions) -> u32 {
+    if !regions.runs.is_empty() && numbers.once_in(2) {
+        let (first, length) = numbers.pick(&regions.runs);
         return (first + numbers.below(length.min(64) + 1)) as u32;
     }
     let random = numbers.word();
     numbers.pick(&[0, 1, 0xFFFF_FFFF, 0x8000_0000, random])
 }
 
-/// One damage to a boot table made of pieces.
-fn damage_table(numbers: &mut Numbers, bytes: &mut Vec<u8>, pieces: &[Piece]) {
+/// One damage to a boot table made of sections.
+fn damage_table(numbers: &mut Numbers, bytes: &mut Vec<u8>, sections: &[Section]) {
     // The offset of each size word and the size it has.
     let mut offsets = Vec::new();
     let mut at = 4;
-    for piece in pieces {
-        offsets.push((at, piece.data.len() as u32));
-        at += 8 + piece.data.len().div_ceil(4) * 4;
+    for section in sections {
+        offsets.push((at, section.data.len() as u32));
+        at += 8 + section.data.len().div_ceil(4) * 4;
     }
     if !offsets.is_empty() && numbers.once_in(2) {
         let (at, size) = numbers.pick(&offsets);
@@ -505,9 +505,9 @@ fn damage_table(numbers: &mut Numbers, bytes: &mut Vec<u8>, pieces: &[Piece]) {
 }
 
 /// A boot table, damaged once in so many times.
-pub fn boot_table(numbers: &mut Numbers, ground: &Ground, times: u64) -> Vec<u8> {
-    let list = pieces(numbers, ground);
-    let first_word = entry(numbers, ground);
+pub fn boot_table(numbers: &mut Numbers, regions: &Regions, times: u64) -> Vec<u8> {
+    let list = sections(numbers, regions);
+    let first_word = entry(numbers, regions);
     let mut bytes = table_of(first_word, &list);
     if numbers.once_in(times) {
         damage_table(numbers, &mut bytes, &list);
@@ -524,12 +524,18 @@ pub struct LoadCase {
 }
 
 pub fn load_case(numbers: &mut Numbers) -> LoadCase {
-    let mut ground = sound_map(numbers);
-    let table = boot_table(numbers, &ground, 3);
+    let mut regions = sound_map(numbers);
+    let table = boot_table(numbers, &regions, 3);
     if numbers.once_in(8) {
-        damage_map(numbers, &mut ground);
+        damage_map(numbers, &mut regions);
     }
-    let size = match ground.memory_size() {
+    // A damaged map may be sound still, with another sum.
+    let answer = reference::map(&regions.map);
+    let sum = match answer.number {
+        0 => answer.bytes,
+        _ => regions.memory_size(),
+    };
+    let size = match sum {
         size if size > 1 << 20 => numbers.below(64),
         size if numbers.once_in(12) => {
             let other = numbers.below(80);
@@ -538,7 +544,7 @@ pub fn load_case(numbers: &mut Numbers) -> LoadCase {
         size => size,
     };
     LoadCase {
-        map: ground.map,
+        map: regions.map,
         table,
         memory: numbers.bytes(size as usize),
     }
@@ -553,9 +559,9 @@ pub struct JoinCase {
 }
 
 pub fn join_case(numbers: &mut Numbers) -> JoinCase {
-    let ground = sound_map(numbers);
-    let first = boot_table(numbers, &ground, 5);
-    let second = boot_table(numbers, &ground, 5);
+    let regions = sound_map(numbers);
+    let first = boot_table(numbers, &regions, 5);
+    let second = boot_table(numbers, &regions, 5);
     let result = (first.len() + second.len()).saturating_sub(8) as u64;
     let size = match numbers.below(10) {
         0 => result.saturating_sub(1),

@@ -125,7 +125,8 @@ impl Record {
 /// The records of a map, or its first fault.
 pub fn read_map(map: &[u8]) -> Result<Vec<Record>, Refusal> {
     // 1: the length is not a multiple of 12, or over 768.
-    if map.len() % 12 != 0 || map.len() > MAP_LIMIT {
+    let rest = map.len() % 12;
+    if rest != 0 || map.len() > MAP_LIMIT {
         return refuse(1, 0);
     }
     let mut records: Vec<Record> = Vec::new();
@@ -422,9 +423,7 @@ pub fn join(first: &[u8], second: &[u8], output: &mut [u8]) -> JoinAnswer {
         put_word(&mut result, size);
         put_word(&mut result, section.address);
         result.extend(section.data);
-        for _ in 0..pad_count(size) {
-            result.push(0);
-        }
+        result.resize(result.len() + pad_count(size) as usize, 0);
     }
     put_word(&mut result, 0);
     // Output bytes past the result are not touched.

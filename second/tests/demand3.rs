@@ -3,36 +3,36 @@
 //! swap of two sections.
 
 use second::calls;
-use second::cases::{self, Ground, Numbers, Piece};
+use second::cases::{self, Numbers, Regions, Section};
 
 /// Generated cases of each law.
 const CASES: u64 = 60_000;
 
 /// A sound map whose memory can be lent.
-fn ground(numbers: &mut Numbers) -> Ground {
+fn regions(numbers: &mut Numbers) -> Regions {
     loop {
-        let ground = cases::sound_map(numbers);
-        if ground.memory_size() < 1 << 16 {
-            assert_eq!(calls::map(&ground.map).bytes, ground.memory_size());
-            return ground;
+        let regions = cases::sound_map(numbers);
+        if regions.memory_size() < 1 << 16 {
+            assert_eq!(calls::map(&regions.map).bytes, regions.memory_size());
+            return regions;
         }
     }
 }
 
-/// A well-formed table, its entry and its pieces.
-struct Made {
+/// A well-formed table, its entry and its sections.
+struct Table {
     entry: u32,
-    pieces: Vec<Piece>,
+    sections: Vec<Section>,
     bytes: Vec<u8>,
 }
 
-fn made(numbers: &mut Numbers, ground: &Ground) -> Made {
-    let pieces = cases::pieces(numbers, ground);
-    let entry = cases::entry(numbers, ground);
-    let bytes = cases::table_of(entry, &pieces);
-    Made {
+fn made(numbers: &mut Numbers, regions: &Regions) -> Table {
+    let sections = cases::sections(numbers, regions);
+    let entry = cases::entry(numbers, regions);
+    let bytes = cases::table_of(entry, &sections);
+    Table {
         entry,
-        pieces,
+        sections,
         bytes,
     }
 }
@@ -58,24 +58,24 @@ fn joining_means_loading_in_turn() {
     let mut accepted = 0;
     let mut refused = [0; 2];
     for _ in 0..CASES {
-        let ground = ground(&mut numbers);
-        let a = made(&mut numbers, &ground);
-        let b = made(&mut numbers, &ground);
+        let regions = regions(&mut numbers);
+        let a = made(&mut numbers, &regions);
+        let b = made(&mut numbers, &regions);
 
         // The join's bytes, length and count.
         let (join, sections) = join(&mut numbers, &a.bytes, &b.bytes);
-        let all = [&a.pieces[..], &b.pieces].concat();
+        let all = [&a.sections[..], &b.sections].concat();
         assert_eq!(join, cases::table_of(b.entry, &all));
         assert_eq!(sections, all.len() as u64);
 
         // Loading the join and loading A start from the same memory; loading B
         // gets the memory that loading A left.
-        let before = numbers.bytes(ground.memory_size() as usize);
+        let before = numbers.bytes(regions.memory_size() as usize);
         let mut at_once = before.clone();
         let mut in_turn = before.clone();
-        let whole = calls::load(&ground.map, &join, &mut at_once);
-        let one = calls::load(&ground.map, &a.bytes, &mut in_turn);
-        let two = calls::load(&ground.map, &b.bytes, &mut in_turn);
+        let whole = calls::load(&regions.map, &join, &mut at_once);
+        let one = calls::load(&regions.map, &a.bytes, &mut in_turn);
+        let two = calls::load(&regions.map, &b.bytes, &mut in_turn);
 
         // Accepted exactly when both are.
         let both = one.number == 0 && two.number == 0;
@@ -105,17 +105,17 @@ fn joining_means_loading_in_turn() {
 fn the_join_of_three_tables() {
     let mut numbers = Numbers::new(cases::seed(), 31);
     for _ in 0..CASES {
-        let ground = ground(&mut numbers);
-        let a = made(&mut numbers, &ground);
-        let b = made(&mut numbers, &ground);
-        let c = made(&mut numbers, &ground);
+        let regions = regions(&mut numbers);
+        let a = made(&mut numbers, &regions);
+        let b = made(&mut numbers, &regions);
+        let c = made(&mut numbers, &regions);
         let (left, _) = join(&mut numbers, &a.bytes, &b.bytes);
         let (left, left_sections) = join(&mut numbers, &left, &c.bytes);
         let (right, _) = join(&mut numbers, &b.bytes, &c.bytes);
         let (right, right_sections) = join(&mut numbers, &a.bytes, &right);
         assert_eq!(left, right);
         assert_eq!(left_sections, right_sections);
-        let all = [&a.pieces[..], &b.pieces, &c.pieces].concat();
+        let all = [&a.sections[..], &b.sections, &c.sections].concat();
         assert_eq!(left, cases::table_of(c.entry, &all));
         assert_eq!(left_sections, all.len() as u64);
     }
@@ -123,7 +123,7 @@ fn the_join_of_three_tables() {
 
 /// The addresses that both sections carry, and whether their bytes are equal
 /// at all of them.
-fn shared(one: &Piece, two: &Piece) -> (usize, bool) {
+fn shared(one: &Section, two: &Section) -> (usize, bool) {
     let mut count = 0;
     let mut agree = true;
     for (i, byte) in one.data.iter().enumerate() {
@@ -140,9 +140,9 @@ fn shared(one: &Piece, two: &Piece) -> (usize, bool) {
 
 /// Two sections; at times the second carries the first's bytes where they
 /// share an address, or all but one of them.
-fn two_sections(numbers: &mut Numbers, ground: &Ground) -> Option<[Piece; 2]> {
-    let one = cases::inside(numbers, ground)?;
-    let mut two = cases::inside(numbers, ground)?;
+fn two_sections(numbers: &mut Numbers, regions: &Regions) -> Option<[Section; 2]> {
+    let one = cases::inside(numbers, regions)?;
+    let mut two = cases::inside(numbers, regions)?;
     if numbers.once_in(3) {
         // Touching or near.
         let end = u64::from(one.address) + one.data.len() as u64;
@@ -178,22 +178,22 @@ fn the_swap_of_two_sections() {
     // Apart; sharing and agreeing; sharing and differing.
     let mut seen = [0; 3];
     for _ in 0..CASES {
-        let ground = ground(&mut numbers);
-        let Some([one, two]) = two_sections(&mut numbers, &ground) else {
+        let regions = regions(&mut numbers);
+        let Some([one, two]) = two_sections(&mut numbers, &regions) else {
             continue;
         };
-        let entry = cases::entry(&mut numbers, &ground);
+        let entry = cases::entry(&mut numbers, &regions);
         let (count, agree) = shared(&one, &two);
         let table = cases::table_of(entry, &[one.clone(), two.clone()]);
         let swapped = cases::table_of(entry, &[two, one]);
-        let before = numbers.bytes(ground.memory_size() as usize);
+        let before = numbers.bytes(regions.memory_size() as usize);
         let mut memory = before.clone();
         let mut other = before;
-        let answer = calls::load(&ground.map, &table, &mut memory);
+        let answer = calls::load(&regions.map, &table, &mut memory);
         if answer.number != 0 {
             continue;
         }
-        assert_eq!(answer, calls::load(&ground.map, &swapped, &mut other));
+        assert_eq!(answer, calls::load(&regions.map, &swapped, &mut other));
         assert_eq!(memory == other, agree);
         seen[match (count, agree) {
             (0, _) => 0,

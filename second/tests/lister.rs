@@ -20,7 +20,7 @@ fn run_in_pieces(pieces: &[&[u8]], pause: Duration) -> Vec<u8> {
         .stdin(Stdio::piped())
         .stdout(Stdio::piped())
         .spawn()
-        .unwrap_or_else(|error| panic!("target/bin/lister does not run: {error}"));
+        .unwrap_or_else(|error| panic!("target/bin/lister does not run ({error}); `rt check lister` makes it"));
     let mut input = child.stdin.take().expect("standard input is piped");
     let mut output = child.stdout.take().expect("standard output is piped");
     let text = std::thread::scope(|scope| {
@@ -228,8 +228,8 @@ fn input_in_pieces() {
 fn generated_tables() {
     let mut numbers = Numbers::new(cases::seed(), 40);
     for _ in 0..600 {
-        let ground = cases::sound_map(&mut numbers);
-        let input = cases::boot_table(&mut numbers, &ground, 2);
+        let regions = cases::sound_map(&mut numbers);
+        let input = cases::boot_table(&mut numbers, &regions, 2);
         prints_as_reference(&input);
     }
 }

@@ -421,6 +421,9 @@ fn a_fault_in_the_last_section_leaves_the_first_unstored() {
 fn a_reserved_hole_in_the_middle_is_found() {
     let hole = map(&[(1, 0x0080_0000, 16), (2, 0x0080_0003, 1)]);
     load_refuses(&hole, &P, &MEMORY, not_open(9, 4, 0x0080_0003));
+    // The reserved record may come before the permitted one.
+    let before = map(&[(2, 0x0080_0003, 1), (1, 0x0080_0000, 16)]);
+    load_refuses(&before, &P, &MEMORY, not_open(9, 4, 0x0080_0003));
     // A gap between two permitted records is one too.
     let gap = map(&[(1, 0x0080_0000, 3), (1, 0x0080_0004, 13)]);
     load_refuses(&gap, &P, &MEMORY, not_open(9, 4, 0x0080_0003));

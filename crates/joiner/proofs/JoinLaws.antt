@@ -2,10 +2,6 @@
 use Prim.Native.Nat.{ℕ, _+_, _-_, _≤_}
 use mathlib.Core.Path.{_≡_, refl, sym, ap, _∙_}
 use mathlib.Core.Logic.{by-cases}
-use mathlib.Core.Bool.{not}
-use lib.Dec.{ltb, eqb}
-use borrow.Author.Tests.{ltb-false}
-use Rattle.words.proofs.ChoiceLaws.{if-cases}
 use mathlib.Core.List.{List, [], _++_, append-assoc, append-nil}
 use native.Mathlib.Omega.{arith}
 use native.Mathlib.Decide.{decLe, ℕ-discrete}
@@ -123,15 +119,3 @@ module _ (a b out : List ℕ) where
   -- a join that is refused leaves the output as it was
   pub join-kept : (joinAnswer a b (length out) .number ≡ 0 → ⊥) → joinOutput a b out ≡ out
   join-kept n = sym (output-kept a b out _ refl n)
-
--- the length that a join reports is within the output
-pub join-within : (a b : List ℕ) (room : ℕ) → joinAnswer a b room .length ≤ room
-unfolding joinAnswer
-join-within a b room =
-    if-cases within (not (eqb (formOf a .number) 0)) _ _ (λ e. omega arith)
-    (λ e. if-cases within (not (eqb (formOf b .number) 0)) _ _ (λ f. omega arith)
-    (λ f. if-cases within (ltb limit (joinedLength a b)) _ _ (λ g. omega arith)
-    (λ g. if-cases within (ltb room (joinedLength a b)) _ _ (λ h. omega arith) (λ h. ltb-false room (joinedLength a b) h))))
-  where
-    within : Joined → Type 0
-    within r = r .length ≤ room

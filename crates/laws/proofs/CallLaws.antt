@@ -1,14 +1,20 @@
 -- Demand 3 for calls: from what `join` and `load` ensure of their results and buffers to how these fit.
-use Prim.Native.Nat.{ℕ}
+use Prim.Native.Nat.{ℕ, _≤_}
 use mathlib.Core.Path.{_≡_, sym, _∙_, ap}
 use mathlib.Core.List.{List}
+use mathlib.Core.Bool.{not}
+use native.Mathlib.Omega.{arith}
+use borrow.Author.Tests.{ltb-false}
+use lib.Dec.{ltb, eqb}
 use lib.ListN.{length, take}
+use Rattle.words.proofs.ChoiceLaws.{if-cases}
+use Rattle.boot_table.specs.Form.{limit, formOf}
 use Rattle.words.specs.Word.{Bytes}
 use Rattle.boot_table.specs.Table.{Sect}
 use Rattle.loader.specs.declared.Answer.{Answer}
 use Rattle.loader.specs.Load.{loadAnswer, loadMemory}
 use Rattle.joiner.specs.declared.Joined.{Joined}
-use Rattle.joiner.specs.Join.{joinAnswer, joinOutput}
+use Rattle.joiner.specs.Join.{joinedLength, joinAnswer, joinOutput}
 use Rattle.laws.specs.Demand3.{joinIn, Joinable, Joinable3}
 use Rattle.laws.specs.Calls.{TurnSides, TurnEnds, ThreeSides, ThreeEnds, SwapSides, SwapEnds}
 use Rattle.laws.proofs.Theorem.{demand-3}
@@ -73,3 +79,15 @@ swap-ends m t u one two x y p a b one′ two′ ea eo eb et s z =
       same = demand-3 .swap-answer t m one x y p l (s .sections);
       memory = demand-3 .swap-memory t m one x y p l (s .sections);
     })
+
+-- the length that a join reports is within the output
+pub join-within : (a b : List ℕ) (room : ℕ) → joinAnswer a b room .length ≤ room
+unfolding joinAnswer
+join-within a b room =
+    if-cases within (not (eqb (formOf a .number) 0)) _ _ (λ e. omega arith)
+    (λ e. if-cases within (not (eqb (formOf b .number) 0)) _ _ (λ f. omega arith)
+    (λ f. if-cases within (ltb limit (joinedLength a b)) _ _ (λ g. omega arith)
+    (λ g. if-cases within (ltb room (joinedLength a b)) _ _ (λ h. omega arith) (λ h. ltb-false room (joinedLength a b) h))))
+  where
+    within : Joined → Type 0
+    within r = r .length ≤ room

@@ -5,8 +5,7 @@ use native.Mathlib.Omega.{arith}
 use native.Mathlib.Nat.{sub-zero}
 use lib.ListN.{length}
 use Rattle.joiner.specs.declared.Joined.{Joined}
-use Rattle.joiner.proofs.JoinLaws.{join-within}
-use Rattle.laws.proofs.CallLaws.{turn-ends}
+use Rattle.laws.proofs.CallLaws.{join-within, turn-ends}
 use borrow.Author.Needs.{needs}
 use Rattle.laws.proofs.join_and_load.Statement.{statement}
 use Rattle.laws.proofs.join_and_load.Tie as tie
