@@ -20,7 +20,9 @@ fn run_in_pieces(pieces: &[&[u8]], pause: Duration) -> Vec<u8> {
         .stdin(Stdio::piped())
         .stdout(Stdio::piped())
         .spawn()
-        .unwrap_or_else(|error| panic!("target/bin/lister does not run ({error}); `rt check lister` makes it"));
+        .unwrap_or_else(|error| {
+            panic!("target/bin/lister does not run ({error}); `rt check lister` makes it")
+        });
     let mut input = child.stdin.take().expect("standard input is piped");
     let mut output = child.stdout.take().expect("standard output is piped");
     let text = std::thread::scope(|scope| {
