@@ -1,6 +1,8 @@
-//! Document 01 read once more, the calls into the proved library, and the
-//! generated cases on which the tests compare the two.
+//! Document 01 read once more, the calls into the proved library, the
+//! generated cases on which the tests compare the two, and a quick peer that
+//! the benchmark measures the library against.
 
 pub mod calls;
 pub mod cases;
+pub mod fast;
 pub mod reference;
