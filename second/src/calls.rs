@@ -52,18 +52,25 @@ extern "C" {
 /// No field of any answer is as large as this.
 const UNWRITTEN: u64 = 0xA5C3_96E1_5A3C_691E;
 
+/// An answer array and the two elements after it.
+#[repr(C)]
+struct Lent<const N: usize> {
+    answer: [u64; N],
+    after: [u64; 2],
+}
+
 /// Lends a prefilled answer array of `N` elements to a call and takes it back.
 fn answered<const N: usize>(call: impl FnOnce(*mut u64)) -> [u64; N] {
-    let mut array = vec![UNWRITTEN; N + 2];
-    call(array.as_mut_ptr());
+    let mut lent = Lent {
+        answer: [UNWRITTEN; N],
+        after: [UNWRITTEN; 2],
+    };
+    call((&raw mut lent).cast());
     assert_eq!(
-        array[N..],
-        [UNWRITTEN; 2],
+        lent.after, [UNWRITTEN; 2],
         "the call wrote past its answer array"
     );
-    let mut answer = [0; N];
-    answer.copy_from_slice(&array[..N]);
-    answer
+    lent.answer
 }
 
 pub fn map(map: &[u8]) -> MapAnswer {

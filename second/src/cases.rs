@@ -83,7 +83,8 @@ impl Numbers {
         (0..length).map(|_| self.byte()).collect()
     }
 
-    fn shuffle<T>(&mut self, list: &mut [T]) {
+    /// Puts a list in no order.
+    pub fn shuffle<T>(&mut self, list: &mut [T]) {
         for i in (1..list.len()).rev() {
             list.swap(i, self.index(i + 1));
         }

@@ -1,12 +1,14 @@
-//! Judging, loading, the join and the configuration table, written to be
-//! quick: the peer that the benchmark measures the proved library against.
-//! The map is read once into spans of open addresses, the form and the map
-//! rule are judged in one walk, and bytes are copied in whole runs.
+//! All calls, written to be quick: the peer that the benchmark measures the
+//! proved library against. The map is read once into spans of open addresses,
+//! the form and the map rule are judged in one walk, bytes are copied in whole
+//! runs, and strap values are taken apart with shifts and masks.
 
 use crate::reference::{
-    ConfigAnswer, JoinAnswer, LoadAnswer, Refusal, CONFIG_LIMIT, MAP_LIMIT, REGISTER_LIMIT,
-    TABLE_LIMIT, TOP,
+    ConfigAnswer, JoinAnswer, LabelAnswer, LoadAnswer, MapAnswer, Refusal, SameAnswer, StrapAnswer,
+    CONFIG_LIMIT, MAP_LIMIT, REGISTER_LIMIT, STRAP_LIMIT, TABLE_LIMIT, TOP,
 };
+use std::borrow::Cow;
+use std::cell::OnceCell;
 
 fn refuse<T>(number: u64, place: usize) -> Result<T, Refusal> {
     Err(Refusal {
@@ -23,116 +25,221 @@ fn word(bytes: &[u8], at: usize) -> u32 {
 
 // The region map.
 
-/// A run of open addresses in one permitted record.
-#[derive(Clone, Copy)]
+/// Mark, kind and zero byte of a permitted and of a reserved record.
+const PERMITTED: u32 = 0x5247_0100;
+const RESERVED: u32 = 0x5247_0200;
+/// Most records in a map, and so most spans.
+const RECORD_LIMIT: usize = MAP_LIMIT / 12;
+
+/// A run of addresses whose bytes stand one after the other in memory.
+#[derive(Clone, Copy, Default)]
 struct Span {
     first: u64,
-    /// One past the last address.
-    end: u64,
-    /// One past the last address of the spans that touch from here on.
-    reach: u64,
+    length: u64,
     /// The place in memory of the first address.
     place: u64,
 }
 
-/// A sound map: its spans in rising order, and all permitted lengths together.
-struct Regions {
-    spans: Vec<Span>,
+impl Span {
+    /// One past the last address.
+    fn end(&self) -> u64 {
+        self.first + self.length
+    }
+
+    /// Where an address stands in the span: below its length exactly for an
+    /// address inside, so that one comparison tells.
+    fn offset(&self, address: u64) -> u64 {
+        address.wrapping_sub(self.first)
+    }
+}
+
+/// The records of a sound map.
+struct Records {
+    /// The permitted records in rising order.
+    permitted: Vec<Span>,
+    /// First address and end of the reserved records, in map order.
+    reserved: Vec<(u64, u64)>,
+    /// All permitted lengths together.
     sum: u64,
 }
 
-impl Regions {
-    fn read(map: &[u8]) -> Result<Regions, Refusal> {
+impl Records {
+    /// The records of a map, or its first fault.
+    #[inline(always)]
+    fn read(map: &[u8]) -> Result<Records, Refusal> {
         if !map.len().is_multiple_of(12) || map.len() > MAP_LIMIT {
             return refuse(1, 0);
         }
-        let mut spans: Vec<Span> = Vec::with_capacity(map.len() / 12);
-        let mut reserved: Vec<(u64, u64)> = Vec::new();
-        let mut sum = 0;
+        let mut permitted = Vec::with_capacity(map.len() / 12);
+        let mut reserved = Vec::new();
+        let mut place = 0;
+        let mut fault = None;
         for (index, record) in map.chunks_exact(12).enumerate() {
-            let first = u64::from(word(record, 4));
-            let length = u64::from(word(record, 8));
-            let end = first + length;
-            if record[..2] != [0x52, 0x47] || record[3] != 0 || length == 0 || end > TOP {
-                return refuse(2, index);
-            }
-            match record[2] {
-                1 => {
-                    let at = spans.partition_point(|earlier| earlier.end <= first);
-                    if spans.get(at).is_some_and(|next| next.first < end) {
-                        return refuse(2, index);
-                    }
-                    let span = Span {
-                        first,
-                        end,
-                        reach: end,
-                        place: sum,
-                    };
-                    spans.insert(at, span);
-                    sum += length;
+            let span = Span {
+                first: word(record, 4).into(),
+                length: word(record, 8).into(),
+                place,
+            };
+            let fits = span.length > 0 && span.end() <= TOP;
+            match word(record, 0) {
+                PERMITTED if fits => {
+                    permitted.push(span);
+                    place += span.length;
                 }
-                2 => reserved.push((first, end)),
-                _ => return refuse(2, index),
+                RESERVED if fits => reserved.push((span.first, span.end())),
+                _ => {
+                    fault = Some(index);
+                    break;
+                }
             }
         }
-        if !reserved.is_empty() {
-            reserved.sort_unstable();
-            spans = without(&spans, &reserved);
+        permitted.sort_unstable_by_key(|span| span.first);
+        // Where rising records share an address, two neighbours do.
+        if !permitted.is_sorted_by(|one, next| one.end() <= next.first) {
+            fault = first_shared(map);
         }
-        for i in (1..spans.len()).rev() {
-            if spans[i - 1].end == spans[i].first {
-                spans[i - 1].reach = spans[i].reach;
-            }
+        match fault {
+            Some(index) => refuse(2, index),
+            None => Ok(Records {
+                permitted,
+                reserved,
+                sum: place,
+            }),
         }
-        Ok(Regions { spans, sum })
     }
 
-    /// The index of the first span that ends past an address. Where the
-    /// address is open, this span holds it.
-    fn index(&self, address: u64) -> usize {
-        self.spans.partition_point(|span| span.end <= address)
-    }
-
-    /// The open addresses from a span that holds the address on, as first and
-    /// end; none where the address is not open.
-    fn run(&self, address: u64) -> Option<(u64, u64)> {
-        let span = self.spans.get(self.index(address))?;
-        (span.first <= address).then_some((span.first, span.reach))
+    /// The spans of open addresses, in rising order.
+    #[inline(always)]
+    fn open(mut self) -> Vec<Span> {
+        if self.reserved.is_empty() {
+            return self.permitted;
+        }
+        self.reserved.sort_unstable();
+        without(&self.permitted, &self.reserved)
     }
 }
 
+/// The index of the first permitted record that shares an address with an
+/// earlier one.
+#[cold]
+fn first_shared(map: &[u8]) -> Option<usize> {
+    let mut earlier: Vec<(u64, u64)> = Vec::new();
+    map.chunks_exact(12).position(|record| {
+        if word(record, 0) != PERMITTED {
+            return false;
+        }
+        let first = u64::from(word(record, 4));
+        let end = first + u64::from(word(record, 8));
+        let shares = earlier.iter().any(|one| one.0 < end && first < one.1);
+        earlier.push((first, end));
+        shares
+    })
+}
+
 /// The spans without the reserved addresses; both lists rise.
+#[inline(never)]
 fn without(spans: &[Span], reserved: &[(u64, u64)]) -> Vec<Span> {
     let mut left = Vec::with_capacity(spans.len() + reserved.len());
+    let mut holes = reserved.iter().peekable();
+    // One past the last address of the holes so far.
+    let mut past = 0;
     for span in spans {
-        let mut at = span.first;
-        let mut keep = |first: u64, end: u64| {
+        let mut keep = |from: u64, end: u64| {
+            let first = from.max(span.first);
             if first < end {
                 left.push(Span {
                     first,
-                    end,
-                    reach: end,
-                    place: span.place + (first - span.first),
+                    length: end - first,
+                    place: span.place + span.offset(first),
                 });
             }
         };
-        for &(first, end) in reserved {
-            if first >= span.end {
-                break;
-            }
-            keep(at, first);
-            at = at.max(end);
+        while let Some((first, end)) = holes.next_if(|hole| hole.0 < span.end()) {
+            keep(past, *first);
+            past = past.max(*end);
         }
-        keep(at, span.end);
+        keep(past, span.end());
     }
     left
 }
 
+/// The spans with those that touch made one, whatever their places are.
+fn joined(spans: &[Span]) -> Cow<'_, [Span]> {
+    if spans.is_sorted_by(|one, next| one.end() < next.first) {
+        return spans.into();
+    }
+    let mut list = spans.to_vec();
+    list.dedup_by(|next, span| {
+        let touches = span.end() == next.first;
+        if touches {
+            span.length += next.length;
+        }
+        touches
+    });
+    list.into()
+}
+
+/// Looks up addresses in rising spans.
+struct Lookup<'a> {
+    spans: &'a [Span],
+    /// The last address of each span, and then the highest address; made when
+    /// the first address is looked up.
+    lasts: OnceCell<[u32; RECORD_LIMIT]>,
+}
+
+impl Lookup<'_> {
+    fn new(spans: &[Span]) -> Lookup<'_> {
+        Lookup {
+            spans,
+            lasts: OnceCell::new(),
+        }
+    }
+
+    /// The array to search.
+    #[cold]
+    fn lasts(&self) -> [u32; RECORD_LIMIT] {
+        let mut lasts = [u32::MAX; RECORD_LIMIT];
+        for (last, span) in lasts.iter_mut().zip(self.spans) {
+            *last = (span.end() - 1) as u32;
+        }
+        lasts
+    }
+
+    /// The index of the first span that ends past an address. A span that
+    /// holds the address is this one.
+    fn index(&self, address: u64) -> usize {
+        let address = address as u32;
+        let lasts = self.lasts.get_or_init(|| self.lasts());
+        lasts.partition_point(|last| *last < address)
+    }
+
+    /// The span that holds an address.
+    fn holding(&self, address: u64) -> Option<&Span> {
+        let span = self.spans.get(self.index(address))?;
+        (span.first <= address).then_some(span)
+    }
+}
+
+pub fn map(map: &[u8]) -> MapAnswer {
+    match Records::read(map) {
+        Err(refusal) => MapAnswer {
+            number: refusal.number,
+            place: refusal.place,
+            ..Default::default()
+        },
+        Ok(records) => MapAnswer {
+            bytes: records.sum,
+            ..Default::default()
+        },
+    }
+}
+
 // The boot table.
 
-/// The offset past a section that begins at `at`, its pads counted.
+/// The offset past a section that begins at `at`: past its two words and its
+/// size, rounded up to a multiple of four.
 fn next_section(at: usize, size: u32) -> usize {
-    at + 8 + (size as usize).next_multiple_of(4)
+    at + ((size as usize + 11) & !3)
 }
 
 /// Walks a table, tells offset, address and size of each section, and answers
@@ -188,44 +295,47 @@ fn load_refused(refusal: Refusal) -> LoadAnswer {
 }
 
 /// The form, then the map rule, in one walk.
-fn judge_table(regions: &Regions, table: &[u8]) -> LoadAnswer {
+fn judge_table(open: &[Span], table: &[u8]) -> LoadAnswer {
+    let open = joined(open);
+    let lookup = Lookup::new(&open);
     let mut bytes = 0;
     let mut closed = None;
-    // The run of the section before.
-    let mut run = (0, 0);
-    let walked = walk(table, |offset, address, size| {
+    // The span of the section before.
+    let mut known = open.first().copied().unwrap_or_default();
+    let walked = walk(table, |place, address, size| {
         bytes += size;
-        let end = address + size;
-        if run.0 <= address && end <= run.1 {
+        let offset = known.offset(address);
+        if offset < known.length && size <= known.length - offset {
             return;
         }
-        let lowest = match regions.run(address) {
-            Some(found) => {
-                run = found;
-                found.1
+        let lowest = match lookup.holding(address) {
+            Some(span) => {
+                known = *span;
+                span.end()
             }
             None => address,
         };
-        if lowest < end && closed.is_none() {
-            closed = Some((offset, lowest));
+        if lowest < address + size && closed.is_none() {
+            closed = Some((place, lowest));
         }
     });
     let sections = match walked {
         Err(refusal) => return load_refused(refusal),
         Ok(sections) => sections,
     };
-    if let Some((offset, address)) = closed {
+    if let Some((place, address)) = closed {
         return LoadAnswer {
             number: 9,
-            place: offset as u64,
+            place: place as u64,
             address,
             ..Default::default()
         };
     }
     let entry = u64::from(word(table, 0));
+    let entry_open = known.offset(entry) < known.length || lookup.holding(entry).is_some();
     LoadAnswer {
         entry,
-        entry_open: u64::from(regions.run(entry).is_some()),
+        entry_open: entry_open.into(),
         sections,
         bytes,
         ..Default::default()
@@ -233,33 +343,34 @@ fn judge_table(regions: &Regions, table: &[u8]) -> LoadAnswer {
 }
 
 pub fn judge(map: &[u8], table: &[u8]) -> LoadAnswer {
-    match Regions::read(map) {
+    match Records::read(map) {
         Err(refusal) => load_refused(refusal),
-        Ok(regions) => judge_table(&regions, table),
+        Ok(records) => judge_table(&records.open(), table),
     }
 }
 
 pub fn load(map: &[u8], table: &[u8], memory: &mut [u8]) -> LoadAnswer {
-    let regions = match Regions::read(map) {
+    let records = match Records::read(map) {
         Err(refusal) => return load_refused(refusal),
-        Ok(regions) => regions,
+        Ok(records) => records,
     };
-    if memory.len() as u64 != regions.sum {
+    if memory.len() as u64 != records.sum {
         return load_refused(Refusal {
             number: 3,
             place: 0,
         });
     }
-    let answer = judge_table(&regions, table);
+    let open = records.open();
+    let answer = judge_table(&open, table);
     if answer.number == 0 {
-        store(&regions, table, memory);
+        store(&open, table, memory);
     }
     answer
 }
 
 /// Stores the sections of an accepted table.
-fn store(regions: &Regions, table: &[u8], memory: &mut [u8]) {
-    let spans = &regions.spans[..];
+fn store(spans: &[Span], table: &[u8], memory: &mut [u8]) {
+    let lookup = Lookup::new(spans);
     let mut at = 4;
     let mut index = 0;
     loop {
@@ -267,25 +378,27 @@ fn store(regions: &Regions, table: &[u8], memory: &mut [u8]) {
         if size == 0 {
             return;
         }
-        let mut address = u64::from(word(table, at + 4));
+        let address = u64::from(word(table, at + 4));
         let mut data = &table[at + 8..][..size as usize];
         at = next_section(at, size);
         // Mostly the span of the section before.
-        if address < spans[index].first || address >= spans[index].end {
-            index = regions.index(address);
+        let mut offset = spans[index].offset(address);
+        if offset >= spans[index].length {
+            index = lookup.index(address);
+            offset = spans[index].offset(address);
         }
         loop {
             let span = &spans[index];
-            let place = (span.place + (address - span.first)) as usize;
-            let room = (span.end - address) as usize;
+            let place = (span.place + offset) as usize;
+            let room = (span.length - offset) as usize;
             if data.len() <= room {
                 copy(&mut memory[place..][..data.len()], data);
                 break;
             }
             let (part, rest) = data.split_at(room);
             memory[place..][..room].copy_from_slice(part);
-            address = span.end;
             data = rest;
+            offset = 0;
             index += 1;
         }
     }
@@ -404,5 +517,215 @@ pub fn configure(table: &[u8], addresses: &[u32], values: &mut [u32]) -> ConfigA
                 ..Default::default()
             }
         }
+    }
+}
+
+// The strap value.
+
+/// A strap value taken apart.
+#[derive(Clone, Copy, PartialEq, Eq)]
+enum Strap {
+    Sleep {
+        sr: u8,
+        wait: bool,
+        clock: u8,
+    },
+    Emif16 {
+        sr: u8,
+        wait: bool,
+        clock: u8,
+    },
+    Link {
+        device: u8,
+        config: u8,
+        clock: u8,
+    },
+    Ethernet {
+        device: u8,
+        multiplier: u8,
+        connection: u8,
+        id: u8,
+        clock: u8,
+    },
+    Pcie {
+        bar: u8,
+        sr: u8,
+        clock: u8,
+    },
+    I2cMaster {
+        config: u16,
+    },
+    I2cPassive {
+        address: u8,
+    },
+    Spi {
+        mode: u8,
+        five_pin: bool,
+        wide: bool,
+        select: u8,
+        table: u8,
+        sr: u8,
+    },
+}
+
+impl Strap {
+    /// The strap of a value, or the refusal's number.
+    #[inline(always)]
+    fn read(value: u32, strict: bool) -> Result<Strap, u64> {
+        if value > STRAP_LIMIT {
+            return Err(18);
+        }
+        let bits = |low: u32, count: u32| (value >> low & ((1 << count) - 1)) as u8;
+        let one = |at: u32| value >> at & 1 == 1;
+        let reserved = |mask: u32, right: u32| strict && value & mask != right;
+        let (device, clock, sr) = (bits(0, 3), bits(10, 3), bits(3, 2));
+        let wait = one(7);
+        Ok(match device {
+            0 if reserved(0x300, 0) => return Err(19),
+            0 => match bits(5, 2) {
+                0 => Strap::Sleep { sr, wait, clock },
+                1 => Strap::Emif16 { sr, wait, clock },
+                _ => return Err(19),
+            },
+            1 | 7 => Strap::Link {
+                device,
+                config: bits(3, 7),
+                clock,
+            },
+            2 | 3 => Strap::Ethernet {
+                device,
+                multiplier: bits(8, 2),
+                connection: bits(6, 2),
+                id: bits(3, 3),
+                clock,
+            },
+            4 if reserved(0x200, 0) => return Err(19),
+            4 => Strap::Pcie {
+                bar: bits(5, 4),
+                sr,
+                clock,
+            },
+            5 if !one(8) => Strap::I2cMaster {
+                config: (value >> 3) as u16,
+            },
+            5 if reserved(0x218, 0x200) => return Err(19),
+            5 => Strap::I2cPassive {
+                address: bits(5, 3),
+            },
+            _ => Strap::Spi {
+                mode: bits(11, 2),
+                five_pin: one(10),
+                wide: one(9),
+                select: bits(7, 2),
+                table: bits(5, 2),
+                sr,
+            },
+        })
+    }
+
+    /// The kind's place in the document's table.
+    fn kind(self) -> u64 {
+        match self {
+            Strap::Sleep { .. } => 0,
+            Strap::Emif16 { .. } => 1,
+            Strap::Link { .. } => 2,
+            Strap::Ethernet { .. } => 3,
+            Strap::Pcie { .. } => 4,
+            Strap::I2cMaster { .. } => 5,
+            Strap::I2cPassive { .. } => 6,
+            Strap::Spi { .. } => 7,
+        }
+    }
+
+    /// The fields in the document's order, zero after the last.
+    fn fields(self) -> [u64; 6] {
+        match self {
+            Strap::Sleep { sr, wait, clock } | Strap::Emif16 { sr, wait, clock } => {
+                [sr.into(), wait.into(), clock.into(), 0, 0, 0]
+            }
+            Strap::Link {
+                device,
+                config,
+                clock,
+            } => [device.into(), config.into(), clock.into(), 0, 0, 0],
+            Strap::Ethernet {
+                device,
+                multiplier,
+                connection,
+                id,
+                clock,
+            } => [
+                device.into(),
+                multiplier.into(),
+                connection.into(),
+                id.into(),
+                clock.into(),
+                0,
+            ],
+            Strap::Pcie { bar, sr, clock } => [bar.into(), sr.into(), clock.into(), 0, 0, 0],
+            Strap::I2cMaster { config } => [config.into(), 0, 0, 0, 0, 0],
+            Strap::I2cPassive { address } => [address.into(), 0, 0, 0, 0, 0],
+            Strap::Spi {
+                mode,
+                five_pin,
+                wide,
+                select,
+                table,
+                sr,
+            } => [
+                mode.into(),
+                five_pin.into(),
+                wide.into(),
+                select.into(),
+                table.into(),
+                sr.into(),
+            ],
+        }
+    }
+}
+
+pub fn strap(value: u32, strict: bool) -> StrapAnswer {
+    match Strap::read(value, strict) {
+        Err(number) => StrapAnswer {
+            number,
+            ..Default::default()
+        },
+        Ok(strap) => StrapAnswer {
+            kind: strap.kind(),
+            fields: strap.fields(),
+            ..Default::default()
+        },
+    }
+}
+
+pub fn strap_short(value: u32) -> StrapAnswer {
+    strap(value, false)
+}
+
+pub fn strap_same(first: u32, second: u32) -> SameAnswer {
+    let both =
+        Strap::read(first, false).and_then(|one| Strap::read(second, false).map(|two| one == two));
+    match both {
+        Err(number) => SameAnswer {
+            number,
+            ..Default::default()
+        },
+        Ok(same) => SameAnswer {
+            same: same.into(),
+            ..Default::default()
+        },
+    }
+}
+
+pub fn strap_label(value: u32) -> LabelAnswer {
+    match Strap::read(value, false) {
+        Err(number) => LabelAnswer {
+            number,
+            ..Default::default()
+        },
+        Ok(strap) => LabelAnswer {
+            label: strap.kind(),
+            ..Default::default()
+        },
     }
 }

@@ -1,8 +1,8 @@
 //! The benchmark's peer and the reference on generated cases: every field of
 //! every answer and every byte of every buffer, so that the peer is right.
 
-use second::cases::{self, Numbers};
-use second::reference::TABLE_LIMIT;
+use second::cases::{self, LoadCase, Numbers};
+use second::reference::{STRAP_LIMIT, TABLE_LIMIT, TOP};
 use second::{fast, reference};
 
 /// The generated cases of each call.
@@ -15,29 +15,104 @@ fn all_hit(hits: &[u64; 20], numbers: &[usize]) {
     }
 }
 
+/// Compares map, judging and loading, and counts the number of loading.
+fn compare_load(case: &LoadCase, hits: &mut [u64; 20]) {
+    assert_eq!(
+        fast::map(&case.map),
+        reference::map(&case.map),
+        "map of {case:?}"
+    );
+    assert_eq!(
+        fast::judge(&case.map, &case.table),
+        reference::judge(&case.map, &case.table),
+        "judging {case:?}"
+    );
+    let mut memory = case.memory.clone();
+    let mut expected = case.memory.clone();
+    let answer = fast::load(&case.map, &case.table, &mut memory);
+    assert_eq!(
+        answer,
+        reference::load(&case.map, &case.table, &mut expected),
+        "loading {case:?}"
+    );
+    assert_eq!(memory, expected, "memory after loading {case:?}");
+    hits[answer.number as usize] += 1;
+}
+
 #[test]
 fn judging_and_loading() {
     let mut numbers = Numbers::new(cases::seed(), 71);
     let mut hits = [0; 20];
     for _ in 0..CASES {
-        let case = cases::load_case(&mut numbers);
-        assert_eq!(
-            fast::judge(&case.map, &case.table),
-            reference::judge(&case.map, &case.table),
-            "judging {case:?}"
-        );
-        let mut memory = case.memory.clone();
-        let mut expected = case.memory.clone();
-        let answer = fast::load(&case.map, &case.table, &mut memory);
-        assert_eq!(
-            answer,
-            reference::load(&case.map, &case.table, &mut expected),
-            "loading {case:?}"
-        );
-        assert_eq!(memory, expected, "memory after loading {case:?}");
-        hits[answer.number as usize] += 1;
+        compare_load(&cases::load_case(&mut numbers), &mut hits);
     }
     all_hit(&hits, &[0, 1, 2, 3, 5, 6, 7, 8, 9]);
+}
+
+/// The first address of a new run: the wanted one, or past the runs that it
+/// would share an address with. At times it shares one.
+fn free_from(numbers: &mut Numbers, runs: &[(u64, u64)], wanted: u64, length: u64) -> u64 {
+    let mut first = wanted;
+    loop {
+        let shared = runs
+            .iter()
+            .map(|run| (run.0, run.0 + run.1))
+            .find(|(other, end)| *other < first + length && first < *end);
+        match shared {
+            Some((_, end)) if end + length <= TOP && !numbers.once_in(200) => first = end,
+            _ => return first,
+        }
+    }
+}
+
+/// A map of up to 64 records in no order, reserved ones among them. They lie
+/// close to each other, so that they touch, and share addresses at times.
+fn crowded_map(numbers: &mut Numbers) -> cases::Regions {
+    let room = numbers.pick(&[60, 600, 60_000]);
+    let base = numbers.pick(&[0, 0x0080_0000, TOP - room]);
+    let reserved = numbers.pick(&[2, 4, 1000]);
+    let mut records = Vec::new();
+    let mut runs = Vec::new();
+    for _ in 0..numbers.from_to(1, 64) {
+        let wanted = base + numbers.below(room);
+        let length = numbers.from_to(1, (TOP - wanted).min(8));
+        if numbers.once_in(reserved) {
+            records.push((2, wanted as u32, length as u32));
+        } else {
+            let first = free_from(numbers, &runs, wanted, length);
+            records.push((1, first as u32, length as u32));
+            runs.push((first, length));
+        }
+    }
+    // A record that is wrong in itself, before or after one that shares.
+    if numbers.once_in(20) {
+        let at = numbers.index(records.len());
+        records[at] = numbers.pick(&[(3, 1, 1), (1, 1, 0), (2, 0xFFFF_FFFF, 2)]);
+    }
+    cases::Regions {
+        map: cases::map(&records),
+        runs,
+    }
+}
+
+#[test]
+fn crowded_maps() {
+    let mut numbers = Numbers::new(cases::seed(), 74);
+    let mut hits = [0; 20];
+    for _ in 0..CASES {
+        let regions = crowded_map(&mut numbers);
+        let table = cases::boot_table(&mut numbers, &regions, 20);
+        let memory = numbers.bytes(reference::map(&regions.map).bytes as usize);
+        let case = LoadCase {
+            map: regions.map,
+            table,
+            memory,
+        };
+        compare_load(&case, &mut hits);
+    }
+    all_hit(&hits, &[0, 2, 9]);
+    // Often sound, often not.
+    assert!(hits[0] > CASES / 10 && hits[2] > CASES / 10, "{hits:?}");
 }
 
 #[test]
@@ -78,6 +153,50 @@ fn configuring() {
         hits[answer.number as usize] += 1;
     }
     all_hit(&hits, &[0, 12, 13, 14, 15, 16, 17]);
+}
+
+/// Compares the strap calls on a value and on a pair of values.
+fn compare_strap(value: u32, other: u32, hits: &mut [u64; 20]) {
+    for strict in [false, true] {
+        let answer = fast::strap(value, strict);
+        assert_eq!(answer, reference::strap(value, strict), "strap {value}");
+        hits[answer.number as usize] += 1;
+    }
+    assert_eq!(
+        fast::strap_short(value),
+        reference::strap_short(value),
+        "short entry, strap {value}"
+    );
+    assert_eq!(
+        fast::strap_label(value),
+        reference::strap_label(value),
+        "label of strap {value}"
+    );
+    assert_eq!(
+        fast::strap_same(value, other),
+        reference::strap_same(value, other),
+        "straps {value} and {other}"
+    );
+}
+
+/// All strap values, each with those that differ in one bit, and generated
+/// pairs.
+#[test]
+fn straps() {
+    let mut numbers = Numbers::new(cases::seed(), 75);
+    let mut hits = [0; 20];
+    for value in 0..=STRAP_LIMIT {
+        compare_strap(value, value, &mut hits);
+        for bit in 0..14 {
+            compare_strap(value, value ^ (1 << bit), &mut hits);
+        }
+    }
+    for _ in 0..CASES {
+        let value = cases::strap_value(&mut numbers);
+        let other = cases::strap_value(&mut numbers);
+        compare_strap(value, other, &mut hits);
+    }
+    all_hit(&hits, &[0, 18, 19]);
 }
 
 /// Tables and joins at the limit and over it; no generated case is so long.

@@ -2,21 +2,30 @@
 //! bytes. docs/BENCHMARK.md says what is measured and how.
 
 use second::cases::{self, Numbers};
-use second::reference::{CONFIG_LIMIT, REGISTER_LIMIT, TABLE_LIMIT};
+use second::reference::{CONFIG_LIMIT, REGISTER_LIMIT, STRAP_LIMIT, TABLE_LIMIT};
 use second::{calls, fast};
+use std::fmt::Debug;
 use std::hint::black_box;
 use std::time::{Duration, Instant};
 
 /// The best of so many repeats is printed.
 const REPEATS: usize = 9;
+/// A slow case has fewer repeats, but at least so many.
+const FEWEST: usize = 3;
+/// A case whose repeats have taken so much time is slow.
+const SLOW: Duration = Duration::from_secs(1);
 /// A repeat runs the call again until so much time has passed.
 const SPAN: Duration = Duration::from_millis(5);
 /// The first address of the sections.
 const BASE: u32 = 0x0080_0000;
+/// The addresses between two rows of sections that do not touch.
+const GAP: usize = 16;
 /// Half of the largest join.
 const HALF: usize = TABLE_LIMIT / 2;
 
-/// One of the three timed pieces of work, over the buffers `B`.
+// Timing.
+
+/// One of the timed pieces of work, over the buffers `B`.
 type Work<'a, B> = &'a dyn Fn(&mut B);
 
 /// The time of one run of the work in nanoseconds, over `turns` runs.
@@ -40,30 +49,52 @@ fn turns<B>(work: Work<B>, buffers: &mut B) -> u32 {
     }
 }
 
-/// The best time of library, fast and memcpy in nanoseconds. The three take
-/// turns, so that a slow moment of the machine falls on all.
-fn measure<B>(buffers: &mut B, works: [Work<B>; 3]) -> [f64; 3] {
-    let counts = works.map(|work| turns(work, buffers));
-    let mut best = [f64::INFINITY; 3];
-    for _ in 0..REPEATS {
-        for i in 0..3 {
-            best[i] = best[i].min(timed(works[i], buffers, counts[i]));
+/// The best time of each work in nanoseconds: library, fast and, where there
+/// is one, memcpy. They take turns, so that a slow moment of the machine falls
+/// on all.
+fn measure<B>(buffers: &mut B, works: &[Work<B>]) -> Vec<f64> {
+    let counts: Vec<u32> = works.iter().map(|work| turns(*work, buffers)).collect();
+    let mut best = vec![f64::INFINITY; works.len()];
+    let start = Instant::now();
+    for repeat in 0..REPEATS {
+        if repeat >= FEWEST && start.elapsed() > SLOW {
+            break;
+        }
+        for ((work, count), best) in works.iter().zip(&counts).zip(&mut best) {
+            *best = best.min(timed(*work, buffers, *count));
         }
     }
     best
 }
 
+// The printed lines.
+
+/// What a line says of its case; a count that the call does not have is none.
+#[derive(Default)]
+struct Line<'a> {
+    call: &'a str,
+    case: &'a str,
+    sections: Option<usize>,
+    records: Option<usize>,
+    bytes: Option<usize>,
+}
+
 fn print_header() {
-    println!("Times in microseconds (us) for one call, best of {REPEATS} repeats.");
+    println!("Times in microseconds (us) for one call, for straps for {VALUES} calls: the best");
+    println!("of {REPEATS} repeats, in slow cases of fewer, but at least of {FEWEST}.");
     println!("Buffers are touched once before timing: tables, memory, output, values.");
+    println!("case: the order of the sections (load, judge, join), of the records (map), of the");
+    println!("entries (configure). Under a table the records touch and stand in falling order;");
+    println!("apart: they do not touch; reserved: half of them are reserved.");
     println!("sections, bytes: of the table, for join of both tables; bytes are data bytes,");
-    println!("for configure those of the entries. records: permitted map records.");
-    println!("memcpy: copy_from_slice of as many bytes.");
+    println!("for configure those of the entries. records: map records.");
+    println!("memcpy: copy_from_slice of as many bytes; none where the call copies nothing.");
     println!("lib/fast, lib/memcpy: the library's time over the other's.");
     println!();
     println!(
-        "{:<9} {:>9} {:>7} {:>10} {:>13} {:>13} {:>13} {:>9} {:>10}",
+        "{:<11} {:<13} {:>8} {:>7} {:>9} {:>11} {:>11} {:>10} {:>8} {:>10}",
         "call",
+        "case",
         "sections",
         "records",
         "bytes",
@@ -75,37 +106,106 @@ fn print_header() {
     );
 }
 
-/// A ratio; a small one has more digits.
-fn ratio(one: f64, other: f64) -> String {
-    let digits = if one < other / 10.0 { 5 } else { 2 };
-    format!("{:.digits$}", one / other)
+/// A value as text, or a dash where there is none.
+fn or_dash<T>(value: Option<T>, text: impl Fn(T) -> String) -> String {
+    value.map_or("-".to_string(), text)
 }
 
-/// One line; a count that the call does not have is left out.
-fn print_line(
-    call: &str,
-    sections: Option<usize>,
-    records: Option<usize>,
-    bytes: usize,
-    times: [f64; 3],
-) {
-    let count = |value: Option<usize>| value.map_or("-".to_string(), |count| count.to_string());
-    let (sections, records) = (count(sections), count(records));
-    let [library, fast, memcpy] = times.map(|time| time / 1000.0);
+/// Prints a line with the times of library, fast and, where there is one,
+/// memcpy.
+fn print_line(line: Line, times: &[f64]) {
+    let Line { call, case, .. } = line;
+    let count = |value: Option<usize>| or_dash(value, |count| count.to_string());
+    let [sections, records, bytes] = [line.sections, line.records, line.bytes].map(count);
+    let (library, fast) = (times[0], times[1]);
+    let micros = |time: f64| format!("{:.3}", time / 1000.0);
+    let ratio = |time: f64| format!("{:.2}", library / time);
+    let memcpy = times.get(2).copied();
     println!(
-        "{call:<9} {sections:>9} {records:>7} {bytes:>10} {library:>13.3} {fast:>13.3} {memcpy:>13.3} {:>9} {:>10}",
-        ratio(library, fast),
-        ratio(library, memcpy)
+        "{call:<11} {case:<13} {sections:>8} {records:>7} {bytes:>9} {:>11} {:>11} {:>10} {:>8} {:>10}",
+        micros(library),
+        micros(fast),
+        or_dash(memcpy, micros),
+        ratio(fast),
+        or_dash(memcpy, ratio),
     );
 }
 
-/// A table of sections of one size, one after the other from an address.
-fn even_table(numbers: &mut Numbers, count: usize, size: usize) -> Vec<u8> {
-    let data = numbers.bytes(count * size);
-    let sections: Vec<(u32, &[u8])> = data
-        .chunks_exact(size)
-        .enumerate()
-        .map(|(i, part)| (BASE + (i * size) as u32, part))
+// Maps and tables.
+
+/// Kind, first address and length of a map record.
+type Record = (u8, u32, u32);
+
+/// Permitted records that touch, together of a length, in rising order.
+fn touching(count: usize, length: usize) -> Vec<Record> {
+    let each = length.div_ceil(count);
+    (0..count)
+        .map(|i| (i * each, each.min(length - i * each)))
+        .map(|(first, size)| (1, BASE + first as u32, size as u32))
+        .collect()
+}
+
+/// The map of rising records, in falling order.
+fn falling(mut records: Vec<Record>) -> Vec<u8> {
+    records.reverse();
+    cases::map(&records)
+}
+
+/// Sections of one size in rows. In a row they lie one after the other, and
+/// between two rows there is a gap.
+struct Rows {
+    /// All sections; the last row may have fewer than the others.
+    sections: usize,
+    size: usize,
+    rows: usize,
+    gap: usize,
+}
+
+impl Rows {
+    /// The sections in a row.
+    fn each(&self) -> usize {
+        self.sections.div_ceil(self.rows)
+    }
+
+    /// The addresses of the sections, rising.
+    fn addresses(&self) -> Vec<u32> {
+        (0..self.sections)
+            .map(|i| i * self.size + i / self.each() * self.gap)
+            .map(|offset| BASE + offset as u32)
+            .collect()
+    }
+
+    /// The first address and the length of each row.
+    fn spans(&self) -> impl Iterator<Item = (u32, u32)> + '_ {
+        let whole = self.each() * self.size;
+        (0..self.rows).map(move |i| {
+            let length = whole.min(self.sections * self.size - i * whole);
+            (BASE + (i * (whole + self.gap)) as u32, length as u32)
+        })
+    }
+
+    /// A permitted record for each row; they do not touch.
+    fn apart(&self) -> Vec<Record> {
+        self.spans().map(|(first, size)| (1, first, size)).collect()
+    }
+
+    /// A permitted record for each row and the gap after it, and a reserved
+    /// record for each gap. The permitted records touch.
+    fn reserved(&self) -> Vec<Record> {
+        let gap = self.gap as u32;
+        self.spans()
+            .flat_map(|(first, size)| [(1, first, size + gap), (2, first + size, gap)])
+            .collect()
+    }
+}
+
+/// A table of sections of one size, one at each address.
+fn even_table(numbers: &mut Numbers, addresses: &[u32], size: usize) -> Vec<u8> {
+    let data = numbers.bytes(addresses.len() * size);
+    let sections: Vec<(u32, &[u8])> = addresses
+        .iter()
+        .copied()
+        .zip(data.chunks_exact(size))
         .collect();
     cases::table(BASE, &sections)
 }
@@ -125,64 +225,149 @@ fn long_table(numbers: &mut Numbers, count: usize, length: usize) -> Vec<u8> {
     cases::table(BASE, &sections)
 }
 
-/// Permitted records that touch, together of a length, in falling order.
-fn falling_map(count: usize, length: usize) -> Vec<u8> {
-    let each = length.div_ceil(count);
-    let mut records = Vec::with_capacity(count);
-    for i in (0..count).rev() {
-        let first = i * each;
-        let size = each.min(length - first);
-        records.push((1, BASE + first as u32, size as u32));
-    }
-    cases::map(&records)
+/// The most sections of a size that the limit takes.
+fn most(size: usize) -> usize {
+    (TABLE_LIMIT - 8) / (8 + size.next_multiple_of(4))
 }
 
-fn load_and_judge(numbers: &mut Numbers, count: usize, size: usize) {
-    let table = even_table(numbers, count, size);
+// Judging and loading.
+
+/// Loads and judges a table with the library and the peer, whose answers and
+/// memory must be equal. Answers the sections, the data bytes and the memory.
+fn agreed(map: &[u8], table: &[u8]) -> (usize, usize, Vec<u8>) {
     assert!(table.len() <= TABLE_LIMIT);
-    let bytes = count * size;
+    let size = calls::map(map).bytes as usize;
+    let mut memory = vec![0x5A; size];
+    let mut other = memory.clone();
+    let answer = calls::load(map, table, &mut memory);
+    assert_eq!(answer, fast::load(map, table, &mut other));
+    assert!(memory == other, "the same memory");
+    assert_eq!(answer, calls::judge(map, table));
+    assert_eq!(answer, fast::judge(map, table));
+    assert_eq!(answer.number, 0);
+    (answer.sections as usize, answer.bytes as usize, memory)
+}
+
+/// The lines of a table under a map.
+fn load_and_judge(case: &str, map: &[u8], table: &[u8]) {
+    let (sections, bytes, mut memory) = agreed(map, table);
+    let line = |call| Line {
+        call,
+        case,
+        sections: Some(sections),
+        records: Some(map.len() / 12),
+        bytes: Some(bytes),
+    };
+    let times = measure(
+        &mut memory,
+        &[
+            &|memory| {
+                black_box(calls::load(black_box(map), black_box(table), memory));
+            },
+            &|memory| {
+                black_box(fast::load(black_box(map), black_box(table), memory));
+            },
+            &|memory| memory[..bytes].copy_from_slice(&table[..bytes]),
+        ],
+    );
+    print_line(line("load"), &times);
+    let times = measure(
+        &mut (),
+        &[
+            &|_| {
+                black_box(calls::judge(black_box(map), black_box(table)));
+            },
+            &|_| {
+                black_box(fast::judge(black_box(map), black_box(table)));
+            },
+        ],
+    );
+    print_line(line("judge"), &times);
+}
+
+/// Sections one after the other, under 1 record and under 64 that touch.
+fn rising(numbers: &mut Numbers, sections: usize, size: usize) {
+    let rows = Rows {
+        sections,
+        size,
+        rows: 1,
+        gap: 0,
+    };
+    let table = even_table(numbers, &rows.addresses(), size);
     for records in [1, 64] {
-        let map = falling_map(records, bytes);
-        let mut memory = vec![0x5A; bytes];
-
-        // Library and peer agree, and the table is accepted.
-        let answer = calls::load(&map, &table, &mut memory);
-        let mut other = vec![0xA5; bytes];
-        assert_eq!(answer, fast::load(&map, &table, &mut other));
-        assert!(memory == other, "the same memory");
-        assert_eq!(answer, calls::judge(&map, &table));
-        assert_eq!(answer, fast::judge(&map, &table));
-        assert_eq!((answer.number, answer.bytes), (0, bytes as u64));
-        drop(other);
-
-        let memcpy: Work<Vec<u8>> = &|memory| memory.copy_from_slice(&table[..bytes]);
-        let times = measure(
-            &mut memory,
-            [
-                &|memory| {
-                    black_box(calls::load(black_box(&map), black_box(&table), memory));
-                },
-                &|memory| {
-                    black_box(fast::load(black_box(&map), black_box(&table), memory));
-                },
-                memcpy,
-            ],
-        );
-        print_line("load", Some(count), Some(records), bytes, times);
-        let times = measure(
-            &mut memory,
-            [
-                &|_| {
-                    black_box(calls::judge(black_box(&map), black_box(&table)));
-                },
-                &|_| {
-                    black_box(fast::judge(black_box(&map), black_box(&table)));
-                },
-                memcpy,
-            ],
-        );
-        print_line("judge", Some(count), Some(records), bytes, times);
+        let map = falling(touching(records, sections * size));
+        load_and_judge("rising", &map, &table);
     }
+}
+
+/// The most sections of one byte, each address once and in no order, under 64
+/// records that touch and under 64 that do not.
+fn random(numbers: &mut Numbers) {
+    for (case, gap) in [("random", 0), ("random, apart", GAP)] {
+        let rows = Rows {
+            sections: most(1),
+            size: 1,
+            rows: 64,
+            gap,
+        };
+        let mut addresses = rows.addresses();
+        numbers.shuffle(&mut addresses);
+        let table = even_table(numbers, &addresses, 1);
+        load_and_judge(case, &falling(rows.apart()), &table);
+    }
+}
+
+/// Sections in 32 rows under 32 permitted records. Each of these ends in a
+/// hole, which is a reserved record and stands beside it in the map.
+fn reserved(numbers: &mut Numbers, sections: usize, size: usize) {
+    let rows = Rows {
+        sections,
+        size,
+        rows: 32,
+        gap: GAP,
+    };
+    let table = even_table(numbers, &rows.addresses(), size);
+    load_and_judge("reserved", &falling(rows.reserved()), &table);
+}
+
+// The other calls.
+
+/// A map alone.
+fn map(case: &str, records: &[Record]) {
+    let map = cases::map(records);
+    let answer = calls::map(&map);
+    assert_eq!(answer, fast::map(&map));
+    assert_eq!(answer.number, 0);
+    let times = measure(
+        &mut (),
+        &[
+            &|_| {
+                black_box(calls::map(black_box(&map)));
+            },
+            &|_| {
+                black_box(fast::map(black_box(&map)));
+            },
+        ],
+    );
+    let line = Line {
+        call: "map",
+        case,
+        records: Some(records.len()),
+        ..Default::default()
+    };
+    print_line(line, &times);
+}
+
+/// One record, and 64 in three orders.
+fn maps(numbers: &mut Numbers) {
+    let bytes = 64 * 16 * 1024;
+    map("rising", &touching(1, bytes));
+    let mut records = touching(64, bytes);
+    map("rising", &records);
+    records.reverse();
+    map("falling", &records);
+    numbers.shuffle(&mut records);
+    map("random", &records);
 }
 
 fn join(numbers: &mut Numbers, count: usize) {
@@ -201,7 +386,7 @@ fn join(numbers: &mut Numbers, count: usize) {
 
     let times = measure(
         &mut output,
-        [
+        &[
             &|output| {
                 black_box(calls::join(black_box(&first), black_box(&second), output));
             },
@@ -215,7 +400,14 @@ fn join(numbers: &mut Numbers, count: usize) {
             },
         ],
     );
-    print_line("join", Some(2 * count), None, 2 * bytes, times);
+    let line = Line {
+        call: "join",
+        case: "rising",
+        sections: Some(2 * count),
+        bytes: Some(2 * bytes),
+        ..Default::default()
+    };
+    print_line(line, &times);
 }
 
 fn configure(numbers: &mut Numbers) {
@@ -243,7 +435,7 @@ fn configure(numbers: &mut Numbers) {
     let copied = vec![0x5A; bytes];
     let times = measure(
         &mut (values, copied),
-        [
+        &[
             &|(values, _)| {
                 black_box(calls::configure(black_box(&table), &addresses, values));
             },
@@ -253,19 +445,108 @@ fn configure(numbers: &mut Numbers) {
             &|(_, copied)| copied.copy_from_slice(&table[..bytes]),
         ],
     );
-    print_line("configure", None, None, bytes, times);
+    let line = Line {
+        call: "configure",
+        case: "random",
+        bytes: Some(bytes),
+        ..Default::default()
+    };
+    print_line(line, &times);
+}
+
+/// How many strap values there are; a run of a strap call takes so many.
+const VALUES: usize = STRAP_LIMIT as usize + 1;
+
+/// The line of a strap call, over all inputs in one run.
+fn strap<I: Copy, A: Debug + PartialEq>(
+    call: &str,
+    case: &str,
+    inputs: &[I],
+    library: impl Fn(I) -> A,
+    peer: impl Fn(I) -> A,
+) {
+    for input in inputs {
+        assert_eq!(library(*input), peer(*input));
+    }
+    let times = measure(
+        &mut (),
+        &[
+            &|_| {
+                for input in inputs {
+                    black_box(library(black_box(*input)));
+                }
+            },
+            &|_| {
+                for input in inputs {
+                    black_box(peer(black_box(*input)));
+                }
+            },
+        ],
+    );
+    let line = Line {
+        call,
+        case,
+        ..Default::default()
+    };
+    print_line(line, &times);
+}
+
+/// All strap values in no order. For the comparison each is paired with
+/// itself or with a value that differs in one bit.
+fn straps(numbers: &mut Numbers) {
+    let mut values: Vec<u32> = (0..=STRAP_LIMIT).collect();
+    numbers.shuffle(&mut values);
+    let pairs: Vec<(u32, u32)> = values
+        .iter()
+        .map(|value| (*value, value ^ (numbers.word() & 1) << numbers.below(13)))
+        .collect();
+    strap(
+        "strap",
+        "strict",
+        &values,
+        |value| calls::strap(value, true),
+        |value| fast::strap(value, true),
+    );
+    strap(
+        "strap_short",
+        "lenient",
+        &values,
+        calls::strap_short,
+        fast::strap_short,
+    );
+    strap(
+        "strap_same",
+        "pairs",
+        &pairs,
+        |(one, two)| calls::strap_same(one, two),
+        |(one, two)| fast::strap_same(one, two),
+    );
+    strap(
+        "strap_label",
+        "lenient",
+        &values,
+        calls::strap_label,
+        fast::strap_label,
+    );
 }
 
 fn main() {
     let mut numbers = Numbers::new(cases::SEED, 80);
     print_header();
     // The largest section, 1,000 sections of 16 KiB, and the most sections of
-    // one byte that the limit takes.
-    load_and_judge(&mut numbers, 1, TABLE_LIMIT - 16);
-    load_and_judge(&mut numbers, 1000, 16 * 1024);
-    load_and_judge(&mut numbers, (TABLE_LIMIT - 8) / 12, 1);
+    // 64, 4 and 1 bytes that the limit takes.
+    rising(&mut numbers, 1, TABLE_LIMIT - 16);
+    rising(&mut numbers, 1000, 16 * 1024);
+    for size in [64, 4, 1] {
+        rising(&mut numbers, most(size), size);
+    }
+    reserved(&mut numbers, 1000, 16 * 1024);
+    reserved(&mut numbers, most(1), 1);
+    random(&mut numbers);
+    maps(&mut numbers);
     for count in [1, 100, 10_000] {
         join(&mut numbers, count);
     }
     configure(&mut numbers);
+    straps(&mut numbers);
 }
