@@ -34,7 +34,7 @@ enum {
     TUNEHARBOR_BYTES_AFTER = 7,      /* bytes stand after the zero word */
     TUNEHARBOR_PAST_TOP = 8,         /* address plus size is over 2^32 */
     TUNEHARBOR_NOT_OPEN = 9,         /* an address is not open */
-    TUNEHARBOR_JOIN_LONG = 10,       /* the join is over 16,777,216 bytes */
+    TUNEHARBOR_RESULT_LONG = 10,     /* the result is over 16,777,216 bytes */
     TUNEHARBOR_OUTPUT_SHORT = 11,    /* the output is shorter than the result */
     TUNEHARBOR_REGISTERS_UNFIT = 12, /* the register lists are unfit */
     TUNEHARBOR_CONFIG_LONG = 13,     /* the configuration table is over 49,152 bytes */
@@ -91,9 +91,9 @@ void tuneharbor_join(const uint8_t *first, size_t first_len,
                      uint64_t answer[5]);
 
 /* Sets and clears bits of registers by a configuration table. A register has
- * its address and its value at one index of the two lists, which must have one
- * length, at most 1,024, with strictly rising addresses. Their counts are in
- * elements.
+ * its address and its value at one index of the two lists. Lists of different
+ * lengths, of more than 1,024, or whose addresses do not strictly rise are
+ * refused. Their counts are in elements.
  *
  * answer[0] number
  * answer[1] place

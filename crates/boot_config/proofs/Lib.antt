@@ -1,5 +1,5 @@
 pub mod RegisterLaws
 pub mod BitLaws
 pub mod EntryLaws
-pub mod RunLaws
+pub mod AppliedLaws
 pub mod AnswerLaws

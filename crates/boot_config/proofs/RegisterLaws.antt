@@ -1,5 +1,5 @@
 -- Laws of register lists: addresses that rise, and the index of an address.
-use Prim.Native.Nat.{ℕ, zero, suc, _+_, _-_, _≤_, _<_}
+use Prim.Native.Nat.{ℕ, zero, suc, _+_, _-_, _*_, _/_, _≤_, _<_}
 use mathlib.Core.Path.{_≡_, refl, ap, _∙_}
 use mathlib.Core.Bool.{true, false, _&&_}
 use mathlib.Core.List.{List, [], _∷_}
@@ -7,7 +7,6 @@ use mathlib.Core.Logic.{by-cases, ⊎-elim}
 use native.Mathlib.Nat.{eq-or-lt-of-le, lt-trans}
 use native.Mathlib.Decide.{decLe, ℕ-discrete}
 use native.Mathlib.Omega.{arith}
-use borrow.Author.Count.{below-more}
 use borrow.Author.Tests.{eq-eqb, ne-eqb, ltb-true, lt-ltb, le-ltb}
 use lib.Dec.{ltb, eqb}
 use lib.ListN.{length, getD, drop, length-drop}
@@ -110,13 +109,49 @@ module _ (xs : List ℕ) (r : rising xs ≡ true) (a i : ℕ) where
   pub found : i < length xs → getD xs i 0 ≡ a → indexOf xs a ≡ i
   found h e = index-first xs a i h e (λ k l d. omega (arith, rising-lt xs k i r l h))
 
-  pub below : i < length xs → getD xs i 0 < a → (k : ℕ) → k < i + 1 → getD xs k 0 < a
-  below h l = below-more _ i (λ k m. lt-trans (rising-lt xs k i r m h) l) l
-
   pub above : a < getD xs i 0 → (k : ℕ) → i ≤ k → k < length xs → a < getD xs k 0
   above l k m h = ⊎-elim (λ (e : i ≡ k). rw e at l) (λ n. lt-trans l (rising-lt xs i k r n h)) (eq-or-lt-of-le m)
 
-  -- those before i are below, and those from i on above
-  pub not-found : ((k : ℕ) → k < i → getD xs k 0 < a) → ((k : ℕ) → i ≤ k → k < length xs → a < getD xs k 0) → indexOf xs a ≡ length xs
-  not-found p q =
-      index-none xs a (λ k h e. by-cases (decLe i k) (λ (m : i ≤ k). omega (arith, q k m h)) (λ (m : i ≤ k → ⊥). omega (arith, p k (omega arith))))
+-- the address a can stand at low or at one of the `more` places after it: those before are below it, those after above
+pub record Between (xs : List ℕ) (a low more : ℕ) : Type 0 where
+  pub inside : low + more < length xs
+  pub before : (k : ℕ) → k < low → getD xs k 0 < a
+  pub after : (k : ℕ) → low + more < k → k < length xs → a < getD xs k 0
+
+-- what stands in the middle halves the places: n is 1 where it is not above a, else 0
+pub halved : (xs : List ℕ) → rising xs ≡ true → (a low more n : ℕ) → Between xs a low more
+    → (getD xs (low + (more + 1) / 2) 0 ≤ a → n ≡ 1) → (a < getD xs (low + (more + 1) / 2) 0 → n ≡ 0)
+    → Between xs a (low + (more + 1) / 2 * n) (more / 2)
+halved xs r a low more n b one none = by-cases (decLe (getD xs (low + (more + 1) / 2) 0) a) up down
+  where
+    up : getD xs (low + (more + 1) / 2) 0 ≤ a → Between xs a (low + (more + 1) / 2 * n) (more / 2)
+    up h =
+        let i = b .inside in
+        let e : low + (more + 1) / 2 * 1 ≡ low + (more + 1) / 2 = omega arith in
+        rw (one h, e)
+        (record {
+          inside = omega arith;
+          before = λ k l. omega (arith, rising-lt xs k (low + (more + 1) / 2) r l (omega arith));
+          after = λ k l u. b .after k (omega arith) u;
+        })
+
+    down : (getD xs (low + (more + 1) / 2) 0 ≤ a → ⊥) → Between xs a (low + (more + 1) / 2 * n) (more / 2)
+    down h =
+        let i = b .inside in
+        let g : a < getD xs (low + (more + 1) / 2) 0 = omega arith in
+        let e : low + (more + 1) / 2 * 0 ≡ low = omega arith in
+        rw (none g, e)
+        (record {
+          inside = omega arith;
+          before = b .before;
+          after = λ k l u. above xs r a (low + (more + 1) / 2) g k (omega arith) u;
+        })
+
+-- where it can stand at low alone and does not, it stands nowhere
+pub not-found : (xs : List ℕ) (a low : ℕ) → Between xs a low 0 → (getD xs low 0 ≡ a → ⊥) → indexOf xs a ≡ length xs
+not-found xs a low b n = index-none xs a (λ k h e. go k h e (ℕ-discrete k low) (decLe low k))
+  where
+    go : (k : ℕ) → k < length xs → getD xs k 0 ≡ a → Dec (k ≡ low) → Dec (low ≤ k) → ⊥
+    go k h e (yes q) d = n (rw q at e)
+    go k h e (no q) (yes l) = omega (arith, b .after k (omega arith) h)
+    go k h e (no q) (no l) = omega (arith, b .before k (omega arith))

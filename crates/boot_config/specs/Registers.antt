@@ -1,5 +1,6 @@
 -- Registers that are lent: addresses xs and values vs.
-use Prim.Native.Nat.{ℕ, suc, _+_, _-_, _^_}
+use Prim.Native.Nat.{ℕ, suc, _+_, _-_, _^_, _≤_}
+use mathlib.Core.Path.{_≡_}
 use mathlib.Core.List.{List, [], _∷_}
 use mathlib.Core.Bool.{Bool, true, _&&_}
 use lib.Bits.{bitAnd, bitOr, bitXor}
@@ -8,15 +9,24 @@ use lib.Dec.{ltb, leb, eqb}
 use lib.ListN.{length}
 use Rattle.words.specs.Choice.{if}
 
+-- how many registers are lent at most
+abbrev pub mostRegisters : ℕ
+mostRegisters = 1024
+
 -- addresses that are strictly rising
 unfoldable pub rising : List ℕ → Bool
 rising [] = true
 rising (x ∷ []) = true
 rising (x ∷ y ∷ xs) = ltb x y && rising (y ∷ xs)
 
--- lists that are fit: of one length, at most 1,024, with addresses strictly rising
+-- lists that are fit: of one length, at most `mostRegisters`, with addresses strictly rising
 unfoldable pub fit : List ℕ → List ℕ → Bool
-fit xs vs = eqb (length xs) (length vs) && leb (length xs) 1024 && rising xs
+fit xs vs = eqb (length xs) (length vs) && leb (length xs) mostRegisters && rising xs
+
+-- addresses that can be searched: at most `mostRegisters`, strictly rising
+pub record Listed (xs : List ℕ) : Type 0 where
+  pub few : length xs ≤ mostRegisters
+  pub rise : rising xs ≡ true
 
 -- the index of an address in a list, or the list's length where it is not there
 unfoldable pub indexOf : List ℕ → ℕ → ℕ

@@ -1,10 +1,10 @@
 // The boot configuration table: entries that set and clear bits of lent registers.
 ghost use mathlib.Core.Path.{_≡_};
-ghost use mathlib.Core.Bool.{true};
 ghost use Prim.Native.Nat.{_≤_, _<_};
 ghost use lib.ListN.{length, getD, set};
-ghost use Rattle.boot_config.specs.Registers.{rising, indexOf, masked, changedBits};
-ghost use Rattle.boot_config.specs.Config.{entryAt, run, outcome, configRefused, configAnswer, configValues};
+ghost use Rattle.boot_config.specs.Registers.{mostRegisters, rising, Listed, indexOf, masked, changedBits};
+ghost use Rattle.boot_config.specs.Config.{configLimit, entryAt, applied, outcome, configRefused, configAnswer, configValues};
+use words::TOP;
 use words::refusal::BRANCH;
 use words::refusal::CONFIG_AFTER;
 use words::refusal::CONFIG_CUT;
@@ -13,12 +13,17 @@ use words::refusal::NO_REGISTER;
 use words::refusal::REGISTERS_UNFIT;
 use words::word_at;
 
-const LIMIT: usize = 49_152;
+// How many bytes a configuration table has at most.
+const CONFIG_LIMIT: usize = 49_152;
 
+// How many bytes an entry has: three words.
+const ENTRY_SIZE: usize = 12;
+
+// How many registers are lent at most.
 const MOST_REGISTERS: usize = 1_024;
 
 // What an entry asks for: a change of the register at an index, the end of the table, or a fault.
-pub enum Entry {
+enum Entry {
     Change {
         register: usize,
         put: u32,
@@ -31,11 +36,12 @@ pub enum Entry {
     },
 }
 
-// What running a table on values comes to: number 0 and the count of its entries, or its first fault.
-pub struct Outcome {
-    pub number: u32,
-    pub place: usize,
-    pub entries: usize,
+// What applying a table to values comes to: number 0 and the count of its entries, or its first fault and the count of
+// the entries before it.
+struct Outcome {
+    number: u32,
+    place: usize,
+    entries: usize,
 }
 
 // What configuring answers. The number is 0 where the values were changed; bits are those that differ after the whole table.
@@ -62,24 +68,34 @@ fn is_rising(addresses: &[u32]) -> bool
     true
 }
 
-// The index of an address in a rising list, or the list's length, by binary search.
+// 1 where the address is not below another, else 0: a number and no test, so that the search below has no branch.
+fn reaches(address: u32, there: u32) -> usize
+    ensures { λ r. ⌜ (there ≤ address → r ≡ 1) × (address < there → r ≡ 0) ⌝ }
+{
+    ((TOP + address as u64 - there as u64) / TOP) as usize
+}
+
+// The index of an address in a rising list, or the list's length. The address can stand at low, or at one of the
+// `more` places after it, which each turn halves. There are ten turns for every list, as many as halve 1,023 to none, so
+// that the loop's end does not depend on the list.
 fn find(addresses: &[u32], address: u32) -> usize
-    requires { ⌜ rising (now addresses) ≡ true ⌝ }
+    requires { ⌜ Listed (now addresses) ⌝ }
     ensures { λ r. ⌜ r ≡ indexOf (now (addresses .entry)) address ⌝ }
 {
+    if addresses.len() == 0 {
+        return 0;
+    }
     let mut low: usize = 0;
-    let mut high = addresses.len();
-    while low < high {
-        let middle = low + (high - low) / 2;
-        let there = addresses[middle];
-        if there == address {
-            return middle;
-        }
-        if there < address {
-            low = middle + 1;
-        } else {
-            high = middle;
-        }
+    let mut more = addresses.len() - 1;
+    let mut most = MOST_REGISTERS - 1;
+    while 0 < most {
+        let half = (more + 1) / 2;
+        low += half * reaches(address, addresses[low + half]);
+        more /= 2;
+        most /= 2;
+    }
+    if addresses[low] == address {
+        return low;
     }
     addresses.len()
 }
@@ -101,7 +117,7 @@ fn change(values: &mut [u32], register: usize, put: u32, clear: u32)
 
 // The number of bits that differ, summed over all registers.
 fn changed_bits(old: &[u32], new: &[u32]) -> u32
-    requires { ⌜ (length (now old) ≤ 1024) × (length (now new) ≡ length (now old)) ⌝ }
+    requires { ⌜ (length (now old) ≤ mostRegisters) × (length (now new) ≡ length (now old)) ⌝ }
     ensures { λ r. ⌜ r ≡ changedBits (now (old .entry)) (now (new .entry)) ⌝ }
 {
     let mut sum: u32 = 0;
@@ -138,10 +154,10 @@ fn fault(number: u32, place: usize) -> Entry
 
 // What the entry at an offset asks for.
 fn entry_at(table: &[u8], addresses: &[u32], at: usize) -> Entry
-    requires { ⌜ (at ≤ length (now table)) × (rising (now addresses) ≡ true) ⌝ }
+    requires { ⌜ (at ≤ length (now table)) × Listed (now addresses) ⌝ }
     ensures { λ r. ⌜ r ≡ entryAt (now (table .entry)) (now (addresses .entry)) at ⌝ }
 {
-    if table.len() - at < 12 {
+    if table.len() - at < ENTRY_SIZE {
         return fault(CONFIG_CUT, at);
     }
     let address = word_at(table, at);
@@ -152,8 +168,8 @@ fn entry_at(table: &[u8], addresses: &[u32], at: usize) -> Entry
             if address != 0 {
                 return fault(BRANCH, at);
             }
-            if at + 12 < table.len() {
-                return fault(CONFIG_AFTER, at + 12);
+            if at + ENTRY_SIZE < table.len() {
+                return fault(CONFIG_AFTER, at + ENTRY_SIZE);
             }
             return Entry::End;
         }
@@ -169,11 +185,11 @@ fn entry_at(table: &[u8], addresses: &[u32], at: usize) -> Entry
     }
 }
 
-// Runs a table on values, up to its end or its first fault.
-fn run_table(table: &[u8], addresses: &[u32], values: &mut [u32]) -> Outcome
-    requires { ⌜ (rising (now addresses) ≡ true) × (length (now values) ≡ length (now addresses)) ⌝ }
-    ensures { λ r. ⌜ r ≡ outcome (run (now (table .entry)) (now (addresses .entry)) (now (values .entry))) ⌝ }
-    ensures { λ _. ⌜ now (values .exit) ≡ run (now (table .entry)) (now (addresses .entry)) (now (values .entry)) .values ⌝ }
+// Applies a table to values, up to its end or its first fault.
+fn apply_table(table: &[u8], addresses: &[u32], values: &mut [u32]) -> Outcome
+    requires { ⌜ Listed (now addresses) × (length (now values) ≡ length (now addresses)) ⌝ }
+    ensures { λ r. ⌜ r ≡ outcome (applied (now (table .entry)) (now (addresses .entry)) (now (values .entry))) ⌝ }
+    ensures { λ _. ⌜ now (values .exit) ≡ applied (now (table .entry)) (now (addresses .entry)) (now (values .entry)) .values ⌝ }
 {
     let mut at: usize = 0;
     let mut entries: usize = 0;
@@ -200,7 +216,7 @@ fn run_table(table: &[u8], addresses: &[u32], values: &mut [u32]) -> Outcome
             }
         }
         entries += 1;
-        at += 12;
+        at += ENTRY_SIZE;
     }
 }
 
@@ -215,20 +231,20 @@ fn refused(number: u32, place: usize) -> Configured
     }
 }
 
-// Runs a table on a copy of the values, and keeps the copy where there is no fault.
+// Applies a table to a copy of the values, and keeps the copy where there is no fault.
 fn configure_copy(
     table: &[u8],
     addresses: &[u32],
     values: &mut [u32],
     copy: &mut [u32],
 ) -> Configured
-    requires { ⌜ (length (now table) ≤ 49152) × (length (now addresses) ≤ 1024) × (rising (now addresses) ≡ true) ⌝ }
+    requires { ⌜ (length (now table) ≤ configLimit) × Listed (now addresses) ⌝ }
     requires { ⌜ (length (now values) ≡ length (now addresses)) × (length (now copy) ≡ length (now addresses)) ⌝ }
     ensures { λ r. ⌜ r ≡ configAnswer (now (table .entry)) (now (addresses .entry)) (now (values .entry)) ⌝ }
     ensures { λ _. ⌜ now (values .exit) ≡ configValues (now (table .entry)) (now (addresses .entry)) (now (values .entry)) ⌝ }
 {
     copy_values(values, copy);
-    let outcome = run_table(table, addresses, copy);
+    let outcome = apply_table(table, addresses, copy);
     if outcome.number != 0 {
         return refused(outcome.number, outcome.place);
     }
@@ -256,10 +272,10 @@ pub fn configure(table: &[u8], addresses: &[u32], values: &mut [u32]) -> Configu
     if !is_rising(addresses) {
         return refused(REGISTERS_UNFIT, 0);
     }
-    if LIMIT < table.len() {
+    if CONFIG_LIMIT < table.len() {
         return refused(CONFIG_LONG, 0);
     }
-    let mut copy = [0u32; 1024];
+    let mut copy = [0u32; MOST_REGISTERS];
     let n = values.len();
     configure_copy(table, addresses, values, &mut copy[..n])
 }

@@ -1,182 +1,212 @@
--- Laws of the strap value: its bits, its kinds as numbers, and its two manners.
-use Prim.Native.Nat.{ℕ, _+_, _-_, _^_, _≤_, _<_}
-use mathlib.Core.Path.{_≡_, refl, sym, ap, _∙_}
-use mathlib.Core.Bool.{Bool, true, false, not, _&&_, _||_}
+-- Laws of the strap value: its bits, its numbers, the comparison and the two manners.
+use Prim.Native.Nat.{ℕ, zero, suc, _-_, _%_, _≤_, _<_}
+use mathlib.Core.Path.{_≡_, refl, sym, ap, subst, _∙_}
+use mathlib.Core.Bool.{Bool, true, false, not, _&&_, _||_, Bool·beq, and-assoc, and-true}
+use mathlib.Core.List.{List, [], _∷_}
 use mathlib.Core.Logic.{_↔_}
-use native.Mathlib.Nat.{mod-lt, one-le-pow}
-use mir.Val.{boolByte}
-use lib.Dec.{ltb, leb, eqb, lit<}
-use borrow.Author.Tests.{eqb-true, eq-eqb, le-ltb}
+use native.Mathlib.Nat.{mod-lt}
+use native.Mathlib.Omega.{arith}
+use mir.Val.{boolByte, hasKey}
+use lib.Dec.{T, ltb, leb, eqb, lit<}
+use lib.ListN.{getD}
+use borrow.Author.Tests.{eqb-true, eq-eqb, ne-eqb, le-ltb}
+use denote.Enum.Declared.{tagOf}
+use types.Run.{OneOf, miss}
 use Rattle.words.specs.Choice.{if}
-use Rattle.words.specs.Refusal.{STRAP-LONG}
-use Rattle.words.proofs.ChoiceLaws.{both-ways, never-true, and-yes, if-both}
+use Rattle.words.proofs.ChoiceLaws.{and-yes, or-no}
+use Rattle.boot_strap.proofs.Strap.{the-type}
+use Rattle.boot_strap.specs.declared.Manner.{Manner}
 use Rattle.boot_strap.specs.declared.Manner.the-variants.{Strict, Lenient}
 use Rattle.boot_strap.specs.declared.Strap.{Strap}
 use Rattle.boot_strap.specs.declared.Strap.the-variants.{Sleep, Emif16, Link, Ethernet, Pcie, I2cMaster, I2cPassive, Spi}
 use Rattle.boot_strap.specs.declared.StrapAnswer.{StrapAnswer}
 use Rattle.boot_strap.specs.declared.StrapAnswer.the-variants.{Decoded, Refused}
-use Rattle.boot_strap.specs.declared.Values.{Values}
-use Rattle.boot_strap.specs.Strap.{bits, isSet, sleepOrEmif, link, ethernet, pcie, i2c, spi, decodeAs, kindOf, valuesOf, equalValues}
+use Rattle.boot_strap.specs.Strap.{strapLimit, bits, isDevice, strapOf, rowOf, isReserved, decodeAs, numbersAs}
+use Rattle.boot_strap.specs.Strap.{kindOf, fieldsOf, answerNumbers, sameList, sameStrap}
 
 -- ---- bits
 
--- bits high:low are below their power of two
-pub bits-lt : (high low v : ℕ) → low ≤ high → bits high low v < 2 ^ (high - low + 1)
-bits-lt high low v h = mod-lt _ (one-le-pow _ _ (lit< tt))
+-- a bit as a yes or no is the bit as a number
+bit-below : (n : ℕ) → n < 2 → boolByte (eqb n 1) ≡ n
+bit-below zero h = refl
+bit-below (suc zero) h = refl
+bit-below (suc (suc n)) h = absurd (omega arith)
 
--- ---- the kinds as numbers
+bit-byte : (n : ℕ) → boolByte (eqb (n % 2) 1) ≡ n % 2
+bit-byte n = bit-below (n % 2) (mod-lt _ (lit< tt))
 
--- the first of the values is the kind's place in the table
-pub kind-values : (s : Strap) → valuesOf s .kind ≡ kindOf s
-unfolding valuesOf kindOf
-kind-values (Sleep sr wait clock) = refl
-kind-values (Emif16 sr wait clock) = refl
-kind-values (Link device number clock) = refl
-kind-values (Ethernet device multiplier connection id clock) = refl
-kind-values (Pcie bar sr clock) = refl
-kind-values (I2cMaster number) = refl
-kind-values (I2cPassive address) = refl
-kind-values (Spi mode fivePin wide select table sr) = refl
+-- ---- the numbers of an answer
 
--- the strap that has these values
-unfoldable strapOf : Values → Strap
-strapOf x =
-    if (eqb (x .kind) 0) (Sleep (x .first) (eqb (x .second) 1) (x .third))
-    (if (eqb (x .kind) 1) (Emif16 (x .first) (eqb (x .second) 1) (x .third))
-    (if (eqb (x .kind) 2) (Link (x .first) (x .second) (x .third))
-    (if (eqb (x .kind) 3) (Ethernet (x .first) (x .second) (x .third) (x .fourth) (x .fifth))
-    (if (eqb (x .kind) 4) (Pcie (x .first) (x .second) (x .third))
-    (if (eqb (x .kind) 5) (I2cMaster (x .first))
-    (if (eqb (x .kind) 6) (I2cPassive (x .first))
-    (Spi (x .first) (eqb (x .second) 1) (eqb (x .third) 1) (x .fourth) (x .fifth) (x .sixth))))))))
+-- a function of the value that a test chooses
+if-ap : {A B : Type 0} (f : A → B) (b : Bool) (x y : A) → f (if b x y) ≡ if b (f x) (f y)
+if-ap f true x y = refl
+if-ap f false x y = refl
+
+-- a strap's kind and fields
+unfoldable row : Strap → List ℕ
+row s = kindOf s ∷ fieldsOf s
+
+-- they are the row of its value
+row-is : (v : ℕ) → row (strapOf v) ≡ rowOf v
+unfolding row strapOf rowOf kindOf fieldsOf
+row-is v = simp (if-ap row, bit-byte)
+
+-- the numbers of the answer are those of the table
+numbers-are : (manner : Manner) (v : ℕ) → answerNumbers (decodeAs manner v) ≡ numbersAs manner v
+unfolding decodeAs numbersAs answerNumbers row
+numbers-are manner v = simp (if-ap answerNumbers, ← row-is v)
+
+-- what equals the definition has its numbers
+pub with-numbers : (manner : Manner) (v : ℕ) (r : StrapAnswer)
+    → r ≡ decodeAs manner v → (r ≡ decodeAs manner v) × (answerNumbers r ≡ numbersAs manner v)
+with-numbers manner v r e = (e, ap answerNumbers e ∙ numbers-are manner v)
+
+-- ---- a strap from its numbers
+
+-- the strap of a kind with these fields
+unfoldable strapFrom : ℕ → List ℕ → Strap
+strapFrom kind f =
+    if (eqb kind 0) (Sleep (getD f 0 0) (eqb (getD f 1 0) 1) (getD f 2 0))
+    (if (eqb kind 1) (Emif16 (getD f 0 0) (eqb (getD f 1 0) 1) (getD f 2 0))
+    (if (eqb kind 2) (Link (getD f 0 0) (getD f 1 0) (getD f 2 0))
+    (if (eqb kind 3) (Ethernet (getD f 0 0) (getD f 1 0) (getD f 2 0) (getD f 3 0) (getD f 4 0))
+    (if (eqb kind 4) (Pcie (getD f 0 0) (getD f 1 0) (getD f 2 0))
+    (if (eqb kind 5) (I2cMaster (getD f 0 0))
+    (if (eqb kind 6) (I2cPassive (getD f 0 0))
+    (Spi (getD f 0 0) (eqb (getD f 1 0) 1) (eqb (getD f 2 0) 1) (getD f 3 0) (getD f 4 0) (getD f 5 0))))))))
 
 -- a Bool as a number and back
 byte-bool : (b : Bool) → eqb (boolByte b) 1 ≡ b
 byte-bool true = refl
 byte-bool false = refl
 
--- a strap as values and back
-strap-of-values : (s : Strap) → strapOf (valuesOf s) ≡ s
-unfolding strapOf valuesOf
-strap-of-values (Sleep sr wait clock) = rw (byte-bool wait)
-strap-of-values (Emif16 sr wait clock) = rw (byte-bool wait)
-strap-of-values (Link device number clock) = refl
-strap-of-values (Ethernet device multiplier connection id clock) = refl
-strap-of-values (Pcie bar sr clock) = refl
-strap-of-values (I2cMaster number) = refl
-strap-of-values (I2cPassive address) = refl
-strap-of-values (Spi mode fivePin wide select table sr) = rw (byte-bool fivePin, byte-bool wide)
+strap-back : (s : Strap) → strapFrom (kindOf s) (fieldsOf s) ≡ s
+unfolding strapFrom kindOf fieldsOf
+strap-back (Sleep sr wait clock) = rw (byte-bool wait)
+strap-back (Emif16 sr wait clock) = rw (byte-bool wait)
+strap-back (Link device number clock) = refl
+strap-back (Ethernet device multiplier connection id clock) = refl
+strap-back (Pcie bar sr clock) = refl
+strap-back (I2cMaster number) = refl
+strap-back (I2cPassive address) = refl
+strap-back (Spi mode fivePin wide select table sr) = rw (byte-bool fivePin, byte-bool wide)
 
--- straps with the same values are the same
-pub values-inj : (s t : Strap) → valuesOf s ≡ valuesOf t → s ≡ t
-values-inj s t e = sym (strap-of-values s) ∙ ap strapOf e ∙ strap-of-values t
+-- straps of one kind with equal fields are the same
+strap-inj : (s t : Strap) → kindOf s ≡ kindOf t → fieldsOf s ≡ fieldsOf t → s ≡ t
+strap-inj s t k f = sym (strap-back s) ∙ (λ i. strapFrom (k i) (f i)) ∙ strap-back t
 
--- values that are found equal are the same
-equal-same : (x y : Values) → equalValues x y ≡ true → x ≡ y
-unfolding equalValues
-equal-same x y e =
-    let e6 = and-yes _ _ e in
-    let e5 = and-yes _ _ (e6 .0) in
-    let e4 = and-yes _ _ (e5 .0) in
-    let e3 = and-yes _ _ (e4 .0) in
-    let e2 = and-yes _ _ (e3 .0) in
-    let e1 = and-yes _ _ (e2 .0) in
-    λ i. record {
-      kind = eqb-true (x .kind) (y .kind) (e1 .0) i;
-      first = eqb-true (x .first) (y .first) (e1 .1) i;
-      second = eqb-true (x .second) (y .second) (e2 .1) i;
-      third = eqb-true (x .third) (y .third) (e3 .1) i;
-      fourth = eqb-true (x .fourth) (y .fourth) (e4 .1) i;
-      fifth = eqb-true (x .fifth) (y .fifth) (e5 .1) i;
-      sixth = eqb-true (x .sixth) (y .sixth) (e6 .1) i;
-    }
+-- answers with the same numbers are the same
+pub numbers-inj : (a b : StrapAnswer) → answerNumbers a ≡ answerNumbers b → a ≡ b
+unfolding answerNumbers
+numbers-inj (Refused n p) (Refused m q) e = cc
+numbers-inj (Refused n p) (Decoded t) e = cc
+numbers-inj (Decoded s) (Refused m q) e = cc
+numbers-inj (Decoded s) (Decoded t) e = ap Decoded (strap-inj s t (cc) (cc))
 
--- a number equals itself, and so do values
+-- ---- the comparison
+
 eqb-same : (n : ℕ) → eqb n n ≡ true
 eqb-same n = eq-eqb n n refl
 
-same-equal : (x : Values) → equalValues x x ≡ true
-unfolding equalValues
-same-equal x = simp eqb-same
+list-same : (xs ys : List ℕ) → sameList xs ys ≡ true → xs ≡ ys
+unfolding sameList
+list-same [] [] e = refl
+list-same [] (y ∷ ys) e = cc
+list-same (x ∷ xs) [] e = cc
+list-same (x ∷ xs) (y ∷ ys) e =
+    let h = and-yes _ _ e in
+    λ i. eqb-true x y (h .0) i ∷ list-same xs ys (h .1) i
 
--- values that differ at a field are not found equal
-pub differ : (x y : Values) (field : Values → ℕ) → (field x ≡ field y → ⊥) → false ≡ equalValues x y
-differ x y field n = sym (never-true _ (λ e. n (ap field (equal-same x y e))))
+same-list : (xs : List ℕ) → sameList xs xs ≡ true
+unfolding sameList
+same-list [] = refl
+same-list (x ∷ xs) = rw (eqb-same x) (same-list xs)
 
--- values that agree at all fields but the last are found equal by the last
-pub last-decides : (x y : Values) → x .kind ≡ y .kind → x .first ≡ y .first → x .second ≡ y .second → x .third ≡ y .third
-    → x .fourth ≡ y .fourth → x .fifth ≡ y .fifth → eqb (x .sixth) (y .sixth) ≡ equalValues x y
-unfolding equalValues
-last-decides x y e1 e2 e3 e4 e5 e6 =
-    simp (eq-eqb _ _ e1, eq-eqb _ _ e2, eq-eqb _ _ e3, eq-eqb _ _ e4, eq-eqb _ _ e5, eq-eqb _ _ e6)
+-- two straps are found the same exactly where they are
+pub same-iff : (s t : Strap) → (sameStrap s t ≡ true) ↔ (s ≡ t)
+unfolding sameStrap
+same-iff s t = (
+  λ e. let h = and-yes _ _ e in strap-inj s t (eqb-true _ _ (h .0)) (list-same _ _ (h .1)),
+  λ e. rw (e, eqb-same (kindOf t)) (same-list (fieldsOf t)),
+)
 
--- two straps are found equal exactly where they are the same
-pub equal-iff : (s t : Strap) → (equalValues (valuesOf s) (valuesOf t) ≡ true) ↔ (s ≡ t)
-equal-iff s t = (λ e. values-inj s t (equal-same _ _ e), λ e. rw e (same-equal (valuesOf t)))
+-- the tag of a strap is its kind's place
+tag-kind : (s : Strap) → tagOf the-type s ≡ kindOf s
+unfolding kindOf
+tag-kind (Sleep sr wait clock) = refl
+tag-kind (Emif16 sr wait clock) = refl
+tag-kind (Link device number clock) = refl
+tag-kind (Ethernet device multiplier connection id clock) = refl
+tag-kind (Pcie bar sr clock) = refl
+tag-kind (I2cMaster number) = refl
+tag-kind (I2cPassive address) = refl
+tag-kind (Spi mode fivePin wide select table sr) = refl
+
+-- the kinds other than k
+abbrev pub others : ℕ → List ℕ
+others k = pick (0 ∷ 1 ∷ 2 ∷ 3 ∷ 4 ∷ 5 ∷ 6 ∷ 7 ∷ [])
+  where
+    pick : List ℕ → List ℕ
+    pick [] = []
+    pick (n ∷ ns) = if (eqb n k) (pick ns) (n ∷ pick ns)
+
+-- a strap with another kind's tag is not the same
+pub other-kind : (s t : Strap) (k : ℕ) → kindOf s ≡ k → T (not (hasKey (others k) k))
+    → OneOf (others k) (tagOf the-type t) → false ≡ sameStrap s t
+unfolding sameStrap
+other-kind s t k e n o =
+    let d : kindOf s ≡ kindOf t → ⊥ = λ f. miss (others k) k n (subst (λ x. OneOf (others k) x) (tag-kind t ∙ sym f ∙ e) o) in
+    rw (ne-eqb _ _ d)
+
+-- equal Bools are equal as numbers
+pub byte-beq : (a b : Bool) → eqb (boolByte a) (boolByte b) ≡ Bool·beq a b
+byte-beq true true = refl
+byte-beq true false = refl
+byte-beq false true = refl
+byte-beq false false = refl
+
+-- the six fields of two SPI straps
+pub spi-same : (m n : ℕ) (f g w x : Bool) (c d t u r s : ℕ)
+    → (eqb m n && Bool·beq f g && Bool·beq w x && eqb c d && eqb t u && eqb r s) ≡ sameStrap (Spi m f w c t r) (Spi n g x d u s)
+unfolding sameStrap kindOf fieldsOf sameList
+spi-same m n f g w x c d t u r s = simp (and-assoc, and-true, byte-beq)
 
 -- ---- the two manners
 
--- what two pairs have by one test, the chosen values have
-if-pair : (P : StrapAnswer → StrapAnswer → Type 0) (b : Bool) (x y x' y' : StrapAnswer) → (b ≡ true → P x x') → (b ≡ false → P y y') → P (if b x y) (if b x' y')
-if-pair P true x y x' y' f g = f refl
-if-pair P false x y x' y' f g = g refl
+-- leniently only sub-modes 2 and 3 of device 0 are reserved
+reserved-lenient : (v : ℕ) → isReserved false v ≡ (isDevice 0 v && leb 2 (bits 6 5 v))
+unfolding isReserved
+reserved-lenient v = go (isDevice 0 v) (leb 2 (bits 6 5 v)) (isDevice 4 v) (isDevice 5 v)
+  where
+    go : (a b c d : Bool) → if a (b || false) (if c false (if d false false)) ≡ (a && b)
+    go true true c d = refl
+    go true false c d = refl
+    go false b true d = refl
+    go false b false true = refl
+    go false b false false = refl
 
--- what each device has in the two manners, every value has
-by-device : (P : StrapAnswer → StrapAnswer → Type 0) (v : ℕ)
-    → (ltb 8191 v ≡ true → P (Refused STRAP-LONG) (Refused STRAP-LONG))
-    → (eqb (bits 2 0 v) 0 ≡ true → P (sleepOrEmif true v) (sleepOrEmif false v))
-    → P (link v) (link v)
-    → P (ethernet v) (ethernet v)
-    → P (pcie true v) (pcie false v)
-    → P (i2c true v) (i2c false v)
-    → P (spi v) (spi v)
-    → P (decodeAs Strict v) (decodeAs Lenient v)
-unfolding decodeAs
-by-device P v long p0 p1 p2 p4 p5 p6 =
-    let d = bits 2 0 v in
-    if-pair P (ltb 8191 v) _ _ _ _ long
-    (λ _. if-pair P (eqb d 0) _ _ _ _ p0
-    (λ _. if-pair P (eqb d 1 || eqb d 7) _ _ _ _ (λ _. p1)
-    (λ _. if-pair P (eqb d 2 || eqb d 3) _ _ _ _ (λ _. p2)
-    (λ _. if-pair P (eqb d 4) _ _ _ _ (λ _. p4)
-    (λ _. if-pair P (eqb d 5) _ _ _ _ (λ _. p5)
-    (λ _. p6))))))
-
--- the answer is a strap
-abbrev Decodes : StrapAnswer → Type 0
-Decodes a = (s : Strap) × (a ≡ Decoded s)
+-- what the strict manner lets pass, the lenient one does
+reserved-less : (v : ℕ) → isReserved true v ≡ false → isReserved false v ≡ false
+unfolding isReserved
+reserved-less v e = reserved-lenient v ∙ go (isDevice 0 v) (leb 2 (bits 6 5 v)) _ _ e
+  where
+    go : (a b x y : Bool) → if a (b || x) y ≡ false → (a && b) ≡ false
+    go true b x y e = or-no b x e .0
+    go false b x y e = refl
 
 -- leniently every 13-bit value is decoded but device 0 with sub-mode 2 or 3
-pub lenient-decodes : (v : ℕ) → v ≤ 8191 → (eqb (bits 2 0 v) 0 && leb 2 (bits 6 5 v)) ≡ false → (s : Strap) × (decodeAs Lenient v ≡ Decoded s)
-unfolding sleepOrEmif link ethernet pcie i2c spi
-lenient-decodes v h n =
-    by-device (λ x y. Decodes y) v
-    (λ e. absurd (both-ways _ e (le-ltb _ _ h)))
-    (λ e. rw (rw e at n) (if-both Decodes (eqb (bits 6 5 v) 0) _ _ (_, refl) (_, refl)))
-    (_, refl)
-    (_, refl)
-    (_, refl)
-    (if-both Decodes (not (isSet 8 v)) _ _ (_, refl) (_, refl))
-    (_, refl)
-
--- what is decoded was not refused
-not-refused : (b : Bool) (n : ℕ) (a : StrapAnswer) (s : Strap) → if b (Refused n) a ≡ Decoded s → a ≡ Decoded s
-not-refused true n a s e = cc
-not-refused false n a s e = e
-
--- the second decodes what the first does
-abbrev Alike : Strap → StrapAnswer → StrapAnswer → Type 0
-Alike s x y = x ≡ Decoded s → y ≡ Decoded s
+pub lenient-decodes : (v : ℕ) → v ≤ strapLimit → (isDevice 0 v && leb 2 (bits 6 5 v)) ≡ false → decodeAs Lenient v ≡ Decoded (strapOf v)
+unfolding decodeAs
+lenient-decodes v h n = rw (le-ltb strapLimit v h, reserved-lenient v, n)
 
 -- what is decoded strictly is decoded alike leniently
 pub strict-lenient : (v : ℕ) (s : Strap) → decodeAs Strict v ≡ Decoded s → decodeAs Lenient v ≡ Decoded s
-unfolding sleepOrEmif pcie i2c
-strict-lenient v s =
-    by-device (Alike s) v
-    (λ _ e. e)
-    (λ _. if-pair (Alike s) (leb 2 (bits 6 5 v)) _ _ _ _ (λ _ e. e) (λ _. not-refused (not (eqb (bits 9 8 v) 0)) _ _ s))
-    (λ e. e)
-    (λ e. e)
-    (not-refused (isSet 9 v) _ _ s)
-    (if-pair (Alike s) (not (isSet 8 v)) _ _ _ _ (λ _ e. e) (λ _. not-refused (not (isSet 9 v && eqb (bits 4 3 v) 0)) _ _ s))
-    (λ e. e)
+unfolding decodeAs
+strict-lenient v s e =
+    go (ltb strapLimit v) (isReserved true v) (isReserved false v) _ _ _ _ (reserved-less v) e
+  where
+    go : (a b c : Bool) (x z : StrapAnswer) (n p : ℕ) → (b ≡ false → c ≡ false)
+        → if a x (if b (Refused n p) z) ≡ Decoded s → if a x (if c (Refused n p) z) ≡ Decoded s
+    go true b c x z n p l e = e
+    go false true c x z n p l e = cc
+    go false false c x z n p l e = rw (l refl) e

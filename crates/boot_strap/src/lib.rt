@@ -1,9 +1,13 @@
 // The boot strap value: what its 13 bits select.
 ghost use mathlib.Core.Path.{_≡_};
-ghost use Rattle.boot_strap.specs.Strap.{isStrict, sleepOrEmif, link, ethernet, pcie, i2c, spi, decodeAs, decodeShort};
-ghost use Rattle.boot_strap.specs.Strap.{kindOf, threeValues, valuesOf, equalValues, sameRefused, sameAnswer, labelAnswer};
+ghost use mathlib.Core.List.{[], _∷_};
+ghost use Rattle.boot_strap.specs.Strap.{strapOf, isStrict, isReserved, decodeAs, numbersAs, decodeShort, numbersShort};
+ghost use Rattle.boot_strap.specs.Strap.{kindOf, fieldsOf, answerNumbers, nine, sameStrap, sameRefused, sameAnswer, labelAnswer};
 use words::refusal::STRAP_LONG;
 use words::refusal::STRAP_RESERVED;
+
+// The largest value of 13 bits.
+const STRAP_LIMIT: u32 = 8191;
 
 // How reserved bits are taken: judged, or ignored.
 pub enum Manner {
@@ -56,21 +60,10 @@ pub enum Strap {
     },
 }
 
-// The strap that was decoded, or the number of a refusal; its place is 0.
+// The strap that was decoded, or a refusal's number and place.
 pub enum StrapAnswer {
     Decoded(Strap),
-    Refused(u32),
-}
-
-// A strap as numbers: its kind, and its fields in order, 0 past the last.
-pub struct Values {
-    pub kind: u32,
-    pub first: u32,
-    pub second: u32,
-    pub third: u32,
-    pub fourth: u32,
-    pub fifth: u32,
-    pub sixth: u32,
+    Refused { number: u32, place: usize },
 }
 
 // Whether two strap values are the same, or a refusal.
@@ -87,112 +80,58 @@ pub struct LabelAnswer {
     pub label: u32,
 }
 
-// ---- the eight kinds
+// ---- decoding
 
-// Device 0: sleep or EMIF16, by the sub-mode.
-fn decode_sleep_or_emif(value: u32, strict: bool) -> StrapAnswer
-    ensures { λ r. ⌜ r ≡ sleepOrEmif strict value ⌝ }
+// What a value selects, by its device.
+fn strap_of(value: u32) -> Strap
+    ensures { λ r. ⌜ r ≡ strapOf value ⌝ }
 {
-    let mode = value / 32 % 4;
-    if 2 <= mode {
-        return StrapAnswer::Refused(STRAP_RESERVED);
-    }
-    if strict {
-        if value / 256 % 4 != 0 {
-            return StrapAnswer::Refused(STRAP_RESERVED);
+    match value % 8 {
+        0 => {
+            let sr = value / 8 % 4;
+            let wait = value / 128 % 2 == 1;
+            let clock = value / 1024 % 8;
+            if value / 32 % 4 == 0 {
+                return Strap::Sleep { sr, wait, clock };
+            }
+            Strap::Emif16 { sr, wait, clock }
         }
-    }
-    let sr = value / 8 % 4;
-    let wait = value / 128 % 2 == 1;
-    let clock = value / 1024 % 8;
-    if mode == 0 {
-        return StrapAnswer::Decoded(Strap::Sleep {
-            sr: sr,
-            wait: wait,
-            clock: clock,
-        });
-    }
-    StrapAnswer::Decoded(Strap::Emif16 {
-        sr: sr,
-        wait: wait,
-        clock: clock,
-    })
-}
-
-// Devices 1 and 7: a link that is not decoded.
-fn decode_link(value: u32) -> StrapAnswer
-    ensures { λ r. ⌜ r ≡ link value ⌝ }
-{
-    StrapAnswer::Decoded(Strap::Link {
-        device: value % 8,
-        number: value / 8 % 128,
-        clock: value / 1024 % 8,
-    })
-}
-
-// Devices 2 and 3: Ethernet.
-fn decode_ethernet(value: u32) -> StrapAnswer
-    ensures { λ r. ⌜ r ≡ ethernet value ⌝ }
-{
-    StrapAnswer::Decoded(Strap::Ethernet {
-        device: value % 8,
-        multiplier: value / 256 % 4,
-        connection: value / 64 % 4,
-        id: value / 8 % 8,
-        clock: value / 1024 % 8,
-    })
-}
-
-// Device 4: PCIe.
-fn decode_pcie(value: u32, strict: bool) -> StrapAnswer
-    ensures { λ r. ⌜ r ≡ pcie strict value ⌝ }
-{
-    if strict {
-        if value / 512 % 2 == 1 {
-            return StrapAnswer::Refused(STRAP_RESERVED);
+        1 | 7 => Strap::Link {
+            device: value % 8,
+            number: value / 8 % 128,
+            clock: value / 1024 % 8,
+        },
+        2 | 3 => Strap::Ethernet {
+            device: value % 8,
+            multiplier: value / 256 % 4,
+            connection: value / 64 % 4,
+            id: value / 8 % 8,
+            clock: value / 1024 % 8,
+        },
+        4 => Strap::Pcie {
+            bar: value / 32 % 16,
+            sr: value / 8 % 4,
+            clock: value / 1024 % 8,
+        },
+        5 => {
+            if value / 256 % 2 == 1 {
+                return Strap::I2cPassive {
+                    address: value / 32 % 8,
+                };
+            }
+            Strap::I2cMaster {
+                number: value / 8 % 1024,
+            }
         }
+        _ => Strap::Spi {
+            mode: value / 2048 % 4,
+            five_pin: value / 1024 % 2 == 1,
+            wide_address: value / 512 % 2 == 1,
+            chip_select: value / 128 % 4,
+            table: value / 32 % 4,
+            sr: value / 8 % 4,
+        },
     }
-    StrapAnswer::Decoded(Strap::Pcie {
-        bar: value / 32 % 16,
-        sr: value / 8 % 4,
-        clock: value / 1024 % 8,
-    })
-}
-
-// Device 5: I2C, master or passive.
-fn decode_i2c(value: u32, strict: bool) -> StrapAnswer
-    ensures { λ r. ⌜ r ≡ i2c strict value ⌝ }
-{
-    if value / 256 % 2 != 1 {
-        return StrapAnswer::Decoded(Strap::I2cMaster {
-            number: value / 8 % 1024,
-        });
-    }
-    if strict {
-        if value / 512 % 2 != 1 {
-            return StrapAnswer::Refused(STRAP_RESERVED);
-        }
-        if value / 8 % 4 != 0 {
-            return StrapAnswer::Refused(STRAP_RESERVED);
-        }
-    }
-    StrapAnswer::Decoded(Strap::I2cPassive {
-        address: value / 32 % 8,
-    })
-}
-
-// Device 6: SPI.
-fn decode_spi(value: u32) -> StrapAnswer
-    ensures { λ r. ⌜ r ≡ spi value ⌝ }
-{
-    StrapAnswer::Decoded(Strap::Spi {
-        mode: value / 2048 % 4,
-        five_pin: value / 1024 % 2 == 1,
-        wide_address: value / 512 % 2 == 1,
-        chip_select: value / 128 % 4,
-        table: value / 32 % 4,
-        sr: value / 8 % 4,
-    })
 }
 
 fn is_strict(manner: Manner) -> bool
@@ -204,170 +143,55 @@ fn is_strict(manner: Manner) -> bool
     }
 }
 
+// Whether a value is reserved: sub-modes 2 and 3 of device 0 always, other bits where they are judged.
+fn is_reserved(value: u32, strict: bool) -> bool
+    ensures { λ r. ⌜ r ≡ isReserved strict value ⌝ }
+{
+    if value % 8 == 0 {
+        return (2 <= value / 32 % 4) | (strict & (value / 256 % 4 != 0));
+    }
+    if value % 8 == 4 {
+        return strict & (value / 512 % 2 == 1);
+    }
+    if value % 8 == 5 {
+        let proper = (value / 512 % 2 == 1) & (value / 8 % 4 == 0);
+        return strict & (value / 256 % 2 == 1) & !proper;
+    }
+    false
+}
+
 // Decodes a strap value in a manner.
 pub fn decode_as(value: u32, manner: Manner) -> StrapAnswer
     ensures { λ r. ⌜ r ≡ decodeAs manner value ⌝ }
+    ensures { λ r. ⌜ answerNumbers r ≡ numbersAs manner value ⌝ }
 {
-    if 8191 < value {
-        return StrapAnswer::Refused(STRAP_LONG);
+    if STRAP_LIMIT < value {
+        return StrapAnswer::Refused {
+            number: STRAP_LONG,
+            place: 0,
+        };
     }
-    let strict = is_strict(manner);
-    match value % 8 {
-        0 => decode_sleep_or_emif(value, strict),
-        1 | 7 => decode_link(value),
-        2 | 3 => decode_ethernet(value),
-        4 => decode_pcie(value, strict),
-        5 => decode_i2c(value, strict),
-        _ => decode_spi(value),
+    if is_reserved(value, is_strict(manner)) {
+        return StrapAnswer::Refused {
+            number: STRAP_RESERVED,
+            place: 0,
+        };
     }
+    StrapAnswer::Decoded(strap_of(value))
 }
 
 // Decodes a strap value where no manner is named: leniently.
 pub fn decode(value: u32) -> StrapAnswer
     ensures { λ r. ⌜ r ≡ decodeShort value ⌝ }
+    ensures { λ r. ⌜ answerNumbers r ≡ numbersShort value ⌝ }
 {
     decode_as(value, Manner::Lenient)
 }
 
-// ---- the kinds as numbers
-
-// A strap's kind and fields as numbers.
-pub fn values_of(strap: Strap) -> Values
-    ensures { λ r. ⌜ r ≡ valuesOf strap ⌝ }
-{
-    match strap {
-        Strap::Sleep { sr, wait, clock } => three(0, sr, wait as u32, clock),
-        Strap::Emif16 { sr, wait, clock } => three(1, sr, wait as u32, clock),
-        Strap::Link {
-            device,
-            number,
-            clock,
-        } => three(2, device, number, clock),
-        Strap::Ethernet {
-            device,
-            multiplier,
-            connection,
-            id,
-            clock,
-        } => Values {
-            kind: 3,
-            first: device,
-            second: multiplier,
-            third: connection,
-            fourth: id,
-            fifth: clock,
-            sixth: 0,
-        },
-        Strap::Pcie { bar, sr, clock } => three(4, bar, sr, clock),
-        Strap::I2cMaster { number } => three(5, number, 0, 0),
-        Strap::I2cPassive { address } => three(6, address, 0, 0),
-        Strap::Spi {
-            mode,
-            five_pin,
-            wide_address,
-            chip_select,
-            table,
-            sr,
-        } => Values {
-            kind: 7,
-            first: mode,
-            second: five_pin as u32,
-            third: wide_address as u32,
-            fourth: chip_select,
-            fifth: table,
-            sixth: sr,
-        },
-    }
-}
-
-// A kind with three fields.
-fn three(kind: u32, first: u32, second: u32, third: u32) -> Values
-    ensures { λ r. ⌜ r ≡ threeValues kind first second third ⌝ }
-{
-    Values {
-        kind: kind,
-        first: first,
-        second: second,
-        third: third,
-        fourth: 0,
-        fifth: 0,
-        sixth: 0,
-    }
-}
-
-fn equal_values(x: Values, y: Values) -> bool
-    ensures { λ r. ⌜ r ≡ equalValues x y ⌝ }
-{
-    if x.kind != y.kind {
-        return false;
-    }
-    if x.first != y.first {
-        return false;
-    }
-    if x.second != y.second {
-        return false;
-    }
-    if x.third != y.third {
-        return false;
-    }
-    if x.fourth != y.fourth {
-        return false;
-    }
-    if x.fifth != y.fifth {
-        return false;
-    }
-    x.sixth == y.sixth
-}
-
-// ---- the two callers
-
-// Whether two strap values have one kind and equal fields. The first value's refusal comes before the second's.
-pub fn same(first: u32, second: u32) -> SameAnswer
-    ensures { λ r. ⌜ r ≡ sameAnswer first second ⌝ }
-{
-    match decode(first) {
-        StrapAnswer::Refused(number) => not_same(number),
-        StrapAnswer::Decoded(s) => match decode(second) {
-            StrapAnswer::Refused(number) => not_same(number),
-            StrapAnswer::Decoded(t) => SameAnswer {
-                number: 0,
-                place: 0,
-                same: equal_values(values_of(s), values_of(t)),
-            },
-        },
-    }
-}
-
-fn not_same(number: u32) -> SameAnswer
-    ensures { λ r. ⌜ r ≡ sameRefused number ⌝ }
-{
-    SameAnswer {
-        number: number,
-        place: 0,
-        same: false,
-    }
-}
-
-// The board label's number: the kind's place in the table of kinds.
-pub fn label(value: u32) -> LabelAnswer
-    ensures { λ r. ⌜ r ≡ labelAnswer value ⌝ }
-{
-    match decode(value) {
-        StrapAnswer::Refused(number) => LabelAnswer {
-            number: number,
-            place: 0,
-            label: 0,
-        },
-        StrapAnswer::Decoded(strap) => LabelAnswer {
-            number: 0,
-            place: 0,
-            label: label_of(strap),
-        },
-    }
-}
+// ---- the answer in numbers
 
 // The kind's place in the table of kinds.
-fn label_of(strap: Strap) -> u32
+fn kind_of(strap: Strap) -> u32
     ensures { λ r. ⌜ r ≡ kindOf strap ⌝ }
 {
     match strap {
@@ -379,5 +203,244 @@ fn label_of(strap: Strap) -> u32
         Strap::I2cMaster { .. } => 5,
         Strap::I2cPassive { .. } => 6,
         Strap::Spi { .. } => 7,
+    }
+}
+
+// A kind and six fields, as nine numbers.
+fn row(kind: u32, a: u32, b: u32, c: u32, d: u32, e: u32, f: u32) -> [u64; 9]
+    ensures { λ r. ⌜ r ≡ 0 ∷ 0 ∷ kind ∷ a ∷ b ∷ c ∷ d ∷ e ∷ f ∷ [] ⌝ }
+{
+    [
+        0,
+        0,
+        kind as u64,
+        a as u64,
+        b as u64,
+        c as u64,
+        d as u64,
+        e as u64,
+        f as u64,
+    ]
+}
+
+// A strap in nine numbers.
+fn strap_numbers(strap: Strap) -> [u64; 9]
+    ensures { λ r. ⌜ r ≡ nine (0 ∷ 0 ∷ kindOf strap ∷ fieldsOf strap) ⌝ }
+{
+    let kind = kind_of(strap);
+    match strap {
+        Strap::Sleep { sr, wait, clock } => row(kind, sr, wait as u32, clock, 0, 0, 0),
+        Strap::Emif16 { sr, wait, clock } => row(kind, sr, wait as u32, clock, 0, 0, 0),
+        Strap::Link {
+            device,
+            number,
+            clock,
+        } => row(kind, device, number, clock, 0, 0, 0),
+        Strap::Ethernet {
+            device,
+            multiplier,
+            connection,
+            id,
+            clock,
+        } => row(kind, device, multiplier, connection, id, clock, 0),
+        Strap::Pcie { bar, sr, clock } => row(kind, bar, sr, clock, 0, 0, 0),
+        Strap::I2cMaster { number } => row(kind, number, 0, 0, 0, 0, 0),
+        Strap::I2cPassive { address } => row(kind, address, 0, 0, 0, 0, 0),
+        Strap::Spi {
+            mode,
+            five_pin,
+            wide_address,
+            chip_select,
+            table,
+            sr,
+        } => row(
+            kind,
+            mode,
+            five_pin as u32,
+            wide_address as u32,
+            chip_select,
+            table,
+            sr,
+        ),
+    }
+}
+
+// An answer in nine numbers: number, place, kind and fields, zero after.
+pub fn numbers(answer: StrapAnswer) -> [u64; 9]
+    ensures { λ r. ⌜ r ≡ nine (answerNumbers answer) ⌝ }
+{
+    match answer {
+        StrapAnswer::Refused { number, place } => [
+            number as u64,
+            place as u64,
+            0,
+            0,
+            0,
+            0,
+            0,
+            0,
+            0,
+        ],
+        StrapAnswer::Decoded(strap) => strap_numbers(strap),
+    }
+}
+
+// ---- the two callers
+
+// Whether two straps have one kind and equal fields.
+fn same_strap(first: Strap, second: Strap) -> bool
+    ensures { λ r. ⌜ r ≡ sameStrap first second ⌝ }
+{
+    match first {
+        Strap::Sleep { sr, wait, clock } => {
+            let Strap::Sleep {
+                sr: s,
+                wait: w,
+                clock: c,
+            } = second
+            else {
+                return false;
+            };
+            (sr == s) & (wait == w) & (clock == c)
+        }
+        Strap::Emif16 { sr, wait, clock } => {
+            let Strap::Emif16 {
+                sr: s,
+                wait: w,
+                clock: c,
+            } = second
+            else {
+                return false;
+            };
+            (sr == s) & (wait == w) & (clock == c)
+        }
+        Strap::Link {
+            device,
+            number,
+            clock,
+        } => {
+            let Strap::Link {
+                device: d,
+                number: n,
+                clock: c,
+            } = second
+            else {
+                return false;
+            };
+            (device == d) & (number == n) & (clock == c)
+        }
+        Strap::Ethernet {
+            device,
+            multiplier,
+            connection,
+            id,
+            clock,
+        } => {
+            let Strap::Ethernet {
+                device: d,
+                multiplier: m,
+                connection: n,
+                id: i,
+                clock: c,
+            } = second
+            else {
+                return false;
+            };
+            (device == d) & (multiplier == m) & (connection == n) & (id == i) & (clock == c)
+        }
+        Strap::Pcie { bar, sr, clock } => {
+            let Strap::Pcie {
+                bar: b,
+                sr: s,
+                clock: c,
+            } = second
+            else {
+                return false;
+            };
+            (bar == b) & (sr == s) & (clock == c)
+        }
+        Strap::I2cMaster { number } => {
+            let Strap::I2cMaster { number: n } = second else {
+                return false;
+            };
+            number == n
+        }
+        Strap::I2cPassive { address } => {
+            let Strap::I2cPassive { address: a } = second else {
+                return false;
+            };
+            address == a
+        }
+        Strap::Spi {
+            mode,
+            five_pin,
+            wide_address,
+            chip_select,
+            table,
+            sr,
+        } => {
+            let Strap::Spi {
+                mode: m,
+                five_pin: f,
+                wide_address: w,
+                chip_select: c,
+                table: t,
+                sr: s,
+            } = second
+            else {
+                return false;
+            };
+            (mode == m)
+                & (five_pin == f)
+                & (wide_address == w)
+                & (chip_select == c)
+                & (table == t)
+                & (sr == s)
+        }
+    }
+}
+
+fn same_refused(number: u32, place: usize) -> SameAnswer
+    ensures { λ r. ⌜ r ≡ sameRefused number place ⌝ }
+{
+    SameAnswer {
+        number: number,
+        place: place,
+        same: false,
+    }
+}
+
+// Whether two strap values have one kind and equal fields. The first value's refusal comes before the second's.
+pub fn same(first: u32, second: u32) -> SameAnswer
+    ensures { λ r. ⌜ r ≡ sameAnswer first second ⌝ }
+{
+    match decode(first) {
+        StrapAnswer::Refused { number, place } => same_refused(number, place),
+        StrapAnswer::Decoded(s) => match decode(second) {
+            StrapAnswer::Refused { number, place } => same_refused(number, place),
+            StrapAnswer::Decoded(t) => SameAnswer {
+                number: 0,
+                place: 0,
+                same: same_strap(s, t),
+            },
+        },
+    }
+}
+
+// The board label's number: the kind's place in the table of kinds.
+pub fn label(value: u32) -> LabelAnswer
+    ensures { λ r. ⌜ r ≡ labelAnswer value ⌝ }
+{
+    match decode(value) {
+        StrapAnswer::Refused { number, place } => LabelAnswer {
+            number: number,
+            place: place,
+            label: 0,
+        },
+        StrapAnswer::Decoded(strap) => LabelAnswer {
+            number: 0,
+            place: 0,
+            label: kind_of(strap),
+        },
     }
 }

@@ -9,22 +9,18 @@ use native.Mathlib.Decide.{decLe, ℕ-discrete}
 use borrow.Author.Tests.{eq-eqb, ne-eqb, lt-ltb, le-ltb, ltb-false}
 use lib.ListN.{length}
 use lib.Dec.{ltb, eqb}
-use Rattle.words.specs.Choice.{if}
 use Rattle.words.specs.Refusal.{TABLE-LONG, TABLE-CUT}
 use Rattle.words.proofs.ChoiceLaws.{if-cases}
 use Rattle.words.proofs.WordLaws.{pad-aligns}
 use Rattle.boot_table.specs.declared.Step.the-variants.{Section, End, Fault}
 use Rattle.boot_table.specs.declared.Form.{Form}
 use Rattle.boot_table.specs.Table.{Sect, Reading, stepAt, sectionAt, before, readOn, reading}
-use Rattle.boot_table.specs.Form.{limit, total, misformed, formed, readForm, formOf, WellFormed}
+use Rattle.boot_table.specs.Form.{tableLimit, total, misformed, formed, readForm, formOf, WellFormed}
+use Rattle.boot_table.specs.Walk.{tally}
 use Rattle.boot_table.proofs.StepLaws.{section-of, end-of, length-body, fault-number}
 use Rattle.boot_table.proofs.ReadLaws.{read-section, read-end, read-fault, read-placed, read-room, whole-ind}
 
 -- ---- the walk
-
--- the form where k sections with b data bytes were passed and r is what reading on finds
-unfoldable pub tally : ℕ → ℕ → Reading → Form
-tally k b r = if (eqb (r .fault) 0) (formed (k + length (r .sections)) (b + total (r .sections))) (misformed (r .fault) (r .place))
 
 -- a section more was passed
 tally-before : (k b : ℕ) (s : Sect) (r : Reading) → tally k b (before s r) ≡ tally (k + 1) (b + length (s .body)) r
@@ -36,17 +32,17 @@ tally-before k b s r =
 
 module _ (t : List ℕ) where
   -- a table over the limit
-  pub form-long : limit < length t → formOf t ≡ misformed TABLE-LONG 0
+  pub form-long : tableLimit < length t → formOf t ≡ misformed TABLE-LONG 0
   unfolding formOf
   form-long h = simp (lt-ltb _ _ h)
 
   -- a table without its entry word
-  pub form-cut : length t ≤ limit → length t < 4 → formOf t ≡ misformed TABLE-CUT 0
+  pub form-cut : length t ≤ tableLimit → length t < 4 → formOf t ≡ misformed TABLE-CUT 0
   unfolding formOf reading readForm
   form-cut h k = simp (le-ltb _ _ h, lt-ltb _ _ k)
 
   -- the walk begins behind the entry word with nothing passed
-  pub form-start : length t ≤ limit → 4 ≤ length t → formOf t ≡ tally 0 0 (readOn t 4)
+  pub form-start : length t ≤ tableLimit → 4 ≤ length t → formOf t ≡ tally 0 0 (readOn t 4)
   unfolding formOf reading readForm tally
   form-start h k = simp (le-ltb _ _ h, le-ltb _ _ k, zero-add)
 
@@ -77,11 +73,11 @@ not-zero e = omega arith
 pub form-well : (t : List ℕ) → formOf t .number ≡ 0 → WellFormed t
 unfolding formOf readForm
 form-well t z =
-    by-cases (decLe (length t) limit)
+    by-cases (decLe (length t) tableLimit)
     (λ h. by-cases (ℕ-discrete (reading t .fault) 0)
     (λ f. record { short = h; whole = f })
     (λ f. absurd (f (simp (le-ltb _ _ h, ne-eqb _ _ f) at z))))
-    (λ h. absurd (not-zero (simp (lt-ltb limit (length t) (omega arith)) at z)))
+    (λ h. absurd (not-zero (simp (lt-ltb tableLimit (length t) (omega arith)) at z)))
 
 -- the form of a well-formed table counts its sections and their data bytes
 pub well-form : (t : List ℕ) → WellFormed t → formOf t ≡ formed (length (reading t .sections)) (total (reading t .sections))
@@ -130,7 +126,7 @@ well-sections t w =
 pub form-placed : (t : List ℕ) → (formOf t .number ≤ 8) × (formOf t .place ≤ length t)
 unfolding formOf readForm reading
 form-placed t =
-    if-cases placed (ltb limit (length t)) _ _ (λ e. (omega arith, omega arith))
+    if-cases placed (ltb tableLimit (length t)) _ _ (λ e. (omega arith, omega arith))
     (λ e. if-cases placed (eqb (reading t .fault) 0) _ _ (λ f. (omega arith, omega arith))
     (λ f. if-cases (λ (r : Reading). (r .fault ≤ 8) × (r .place ≤ length t)) (ltb (length t) 4) _ _ (λ g. (omega arith, omega arith))
     (λ g. read-placed t 4 (ltb-false _ _ g))))

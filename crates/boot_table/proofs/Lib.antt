@@ -1,3 +1,4 @@
+pub mod HeaderLaws
 pub mod StepLaws
 pub mod ReadLaws
 pub mod FormLaws

@@ -8,11 +8,12 @@ use native.Mathlib.Decide.{decLe}
 use lib.ListN.{length}
 use types.Run.{OneOf}
 use denote.Enum.Declared.{tagOf}
+use Rattle.words.specs.Word.{padCount}
 use Rattle.boot_table.proofs.Step.{the-type}
 use Rattle.boot_table.specs.declared.Step.{Step}
 use Rattle.boot_table.specs.declared.Step.the-variants.{Section, End, Fault}
-use Rattle.boot_table.specs.Table.{Reading, stop, stepAt, sectionAt, before, onStep, readFrom, readOn}
-use Rattle.boot_table.proofs.StepLaws.{step-cut, section-of, fault-of, fault-number}
+use Rattle.boot_table.specs.Table.{headerAt, Reading, stop, stepAt, sectionAt, before, onStep, readFrom, readOn}
+use Rattle.boot_table.proofs.StepLaws.{IsSection, step-cut, section-of, end-of, fault-of, fault-number}
 
 -- ---- how many steps are allowed does not matter where they are enough
 
@@ -95,6 +96,27 @@ module _ (t : List ℕ) (at : ℕ) where
   pub read-next : {address size start next : ℕ} → stepAt t at ≡ Section address size start next → readOn t at .fault ≡ 0 → readOn t next .fault ≡ 0
   unfolding before
   read-next e f = sym (ap (λ (r : Reading). r .fault) (read-section e)) ∙ f
+
+  -- the size word alone tells a section from the end: where it is zero the end stands there
+  pub whole-end : headerAt t at ≡ 0 → readOn t at .fault ≡ 0 → stepAt t at ≡ End
+  whole-end z f = go (stepAt t at) refl
+    where
+      go : (s : Step) → stepAt t at ≡ s → s ≡ End
+      go (Section address size start next) e = let i = section-of t at e in absurd (omega (arith, i .some, i .size-is))
+      go End e = refl
+      go (Fault number place) e = absurd (read-no-fault e f)
+
+  -- and where not, a section
+  pub whole-section : (headerAt t at ≡ 0 → ⊥) → readOn t at .fault ≡ 0
+      → IsSection t at (headerAt t (at + 4)) (headerAt t at) (at + 8) (at + 8 + headerAt t at + padCount (headerAt t at))
+  whole-section n f = go (stepAt t at) refl
+    where
+      go : (s : Step) → stepAt t at ≡ s → IsSection t at (headerAt t (at + 4)) (headerAt t at) (at + 8) (at + 8 + headerAt t at + padCount (headerAt t at))
+      go (Section address size start next) e =
+          let i = section-of t at e in
+          rw (← (i .address-is), ← (i .size-is), ← (i .next-is), ← (i .start-is)) i
+      go End e = absurd (n (end-of t at e .1))
+      go (Fault number place) e = absurd (read-no-fault e f)
 
 -- what holds at the end, and at each section where it holds at the next offset, holds where reading finds no fault
 module _ (t : List ℕ) (P : ℕ → Type 0)

@@ -5,14 +5,14 @@ use mathlib.Core.List.{List, [], _∷_, _++_, append-assoc, append-nil}
 use mathlib.Core.Bool.{true}
 use native.Mathlib.Omega.{arith}
 use borrow.Author.Tests.{le-ltb, ne-eqb}
-use lib.ListN.{length, take, drop, replicate, length-append, length-drop, length-replicate, take-append-drop}
+use lib.ListN.{length, take, drop, replicate, length-append, length-drop, take-append-drop}
 use lib.Seq.{take-all, take-at, drop-at, drop-drop}
-use Rattle.words.specs.Word.{Bytes, wordAt, wordBytes, padCount}
+use Rattle.words.specs.Word.{Bytes, padCount}
 use Rattle.words.proofs.ChoiceLaws.{both-ways}
-use Rattle.words.proofs.WordLaws.{word-seam, word-bytes, length-word, bytes-word, word-lt}
-use Rattle.boot_table.specs.Table.{Sect, chunk, chunks, table, allZero, padsAt, sectionAt, before, readOn, reading}
+use Rattle.boot_table.specs.Table.{headerAt, headerBytes, entryOf, Sect, chunk, chunks, tableOf, allZero, padsAt, sectionAt, before, readOn, reading}
 use Rattle.boot_table.specs.Form.{WellFormed}
-use Rattle.boot_table.specs.Valid.{Valid, All, none, also}
+use Rattle.boot_table.specs.Valid.{Valid, ZeroPads, All, none, also}
+use Rattle.boot_table.proofs.HeaderLaws.{header-seam, header-bytes, length-header, bytes-header, header-lt}
 use Rattle.boot_table.proofs.StepLaws.{IsSection, section-of, section-step, end-of, end-step, length-body, length-pads}
 use Rattle.boot_table.proofs.ReadLaws.{read-section, read-end, whole-ind}
 use Rattle.boot_table.proofs.FormLaws.{well-read, well-long}
@@ -26,9 +26,9 @@ chunks-append [] ys = refl
 chunks-append (x ∷ xs) ys = rw (chunks-append xs ys) (simp append-assoc)
 
 -- a table has its entry word and its zero word besides its sections
-pub length-table : (e : ℕ) (ss : List Sect) → length (table e ss) ≡ 8 + length (chunks ss)
-unfolding table
-length-table e ss = simp (length-append, length-word) (omega arith)
+pub length-table : (e : ℕ) (ss : List Sect) → length (tableOf e ss) ≡ 8 + length (chunks ss)
+unfolding tableOf
+length-table e ss = simp (length-append, length-header) (omega arith)
 
 -- sections of two lists with a property have it one after another
 pub all-append : {P : Sect → Type 0} {xs ys : List Sect} → All P xs → All P ys → All P (xs ++ ys)
@@ -55,44 +55,40 @@ all-zeros (suc x ∷ xs) h = absurd (both-ways _ h (simp (ne-eqb (suc x) 0 (λ z
 
 -- a valid section that stands between p and q
 module _ (p q : List ℕ) (s : Sect) (v : Valid s) where
-  -- its lengths
-  pads-long : length (s .pads) ≡ padCount (length (s .body))
-  pads-long = ap length (v .zeros) ∙ length-replicate (padCount (length (s .body))) 0
-
   length-chunk : length (chunk s) ≡ 8 + length (s .body) + padCount (length (s .body))
   unfolding chunk
-  length-chunk = simp (length-append, length-word) (omega (arith, pads-long))
+  length-chunk = simp (length-append, length-header) (omega (arith, v .padded))
 
   -- the bytes cut before its address, before its data, and before its pads
-  cut-address : p ++ (chunk s ++ q) ≡ (p ++ wordBytes (length (s .body))) ++ (wordBytes (s .address) ++ (s .body ++ s .pads ++ q))
+  cut-address : p ++ (chunk s ++ q) ≡ (p ++ headerBytes (length (s .body))) ++ (headerBytes (s .address) ++ (s .body ++ s .pads ++ q))
   unfolding chunk
   cut-address = simp append-assoc
 
-  cut-body : p ++ (chunk s ++ q) ≡ (p ++ wordBytes (length (s .body)) ++ wordBytes (s .address)) ++ (s .body ++ (s .pads ++ q))
+  cut-body : p ++ (chunk s ++ q) ≡ (p ++ headerBytes (length (s .body)) ++ headerBytes (s .address)) ++ (s .body ++ (s .pads ++ q))
   unfolding chunk
   cut-body = simp append-assoc
 
-  cut-pads : p ++ (chunk s ++ q) ≡ (p ++ wordBytes (length (s .body)) ++ wordBytes (s .address) ++ s .body) ++ (s .pads ++ q)
+  cut-pads : p ++ (chunk s ++ q) ≡ (p ++ headerBytes (length (s .body)) ++ headerBytes (s .address) ++ s .body) ++ (s .pads ++ q)
   unfolding chunk
   cut-pads = simp append-assoc
 
   -- its words, data and pads as they are read
-  size-at : wordAt (p ++ (chunk s ++ q)) (length p) ≡ length (s .body)
+  size-at : headerAt (p ++ (chunk s ++ q)) (length p) ≡ length (s .body)
   unfolding chunk
-  size-at = word-seam p (chunk s ++ q) ∙ simp append-assoc (word-bytes (length (s .body)) _ (v .small))
+  size-at = header-seam p (chunk s ++ q) ∙ simp append-assoc (header-bytes (length (s .body)) _ (v .small))
 
-  address-at : wordAt (p ++ (chunk s ++ q)) (length p + 4) ≡ s .address
+  address-at : headerAt (p ++ (chunk s ++ q)) (length p + 4) ≡ s .address
   address-at =
-      let l : length (p ++ wordBytes (length (s .body))) ≡ length p + 4 = simp (length-append, length-word) in
-      let e = word-seam (p ++ wordBytes (length (s .body))) (wordBytes (s .address) ++ (s .body ++ s .pads ++ q)) in
-      let f = word-bytes (s .address) (s .body ++ s .pads ++ q) (omega (arith, v .some, v .top)) in
+      let l : length (p ++ headerBytes (length (s .body))) ≡ length p + 4 = simp (length-append, length-header) in
+      let e = header-seam (p ++ headerBytes (length (s .body))) (headerBytes (s .address) ++ (s .body ++ s .pads ++ q)) in
+      let f = header-bytes (s .address) (s .body ++ s .pads ++ q) (omega (arith, v .some, v .top)) in
       cc (cut-address)
 
   body-at : take (length (s .body)) (drop (length p + 8) (p ++ (chunk s ++ q))) ≡ s .body
   body-at =
       rw (
         cut-body,
-        drop-at (p ++ wordBytes (length (s .body)) ++ wordBytes (s .address)) _ (length p + 8) (simp (length-append, length-word) (omega arith)),
+        drop-at (p ++ headerBytes (length (s .body)) ++ headerBytes (s .address)) _ (length p + 8) (simp (length-append, length-header) (omega arith)),
         take-at (s .body) _ (length (s .body)) refl,
       ) refl
 
@@ -101,13 +97,13 @@ module _ (p q : List ℕ) (s : Sect) (v : Valid s) where
   pads-at =
       rw (
         cut-pads,
-        drop-at (p ++ wordBytes (length (s .body)) ++ wordBytes (s .address) ++ s .body) _ (length p + 8 + length (s .body)) (simp (length-append, length-word) (omega arith)),
-        take-at (s .pads) q (padCount (length (s .body))) pads-long,
+        drop-at (p ++ headerBytes (length (s .body)) ++ headerBytes (s .address) ++ s .body) _ (length p + 8 + length (s .body)) (simp (length-append, length-header) (omega arith)),
+        take-at (s .pads) q (padCount (length (s .body))) (v .padded),
       ) refl
 
   -- so the section stands there, and is read
-  chunk-at : IsSection (p ++ (chunk s ++ q)) (length p) (s .address) (length (s .body)) (length p + 8) (length p + length (chunk s))
-  chunk-at = record {
+  chunk-at : ZeroPads s → IsSection (p ++ (chunk s ++ q)) (length p) (s .address) (length (s .body)) (length p + 8) (length p + length (chunk s))
+  chunk-at z = record {
     start-is = refl;
     next-is = omega (arith, length-chunk);
     within = simp length-append (omega arith);
@@ -116,7 +112,7 @@ module _ (p q : List ℕ) (s : Sect) (v : Valid s) where
     size-is = sym size-at;
     address-is = sym address-at;
     top = v .top;
-    zeros = ap allZero (pads-at ∙ v .zeros) ∙ zeros-all (padCount (length (s .body)));
+    zeros = ap allZero (pads-at ∙ z) ∙ zeros-all (length (s .pads));
   }
 
   section-at : sectionAt (p ++ (chunk s ++ q)) (length p) (s .address) (length (s .body)) ≡ s
@@ -124,32 +120,32 @@ module _ (p q : List ℕ) (s : Sect) (v : Valid s) where
   section-at = λ i. record { address = s .address; body = body-at i; pads = pads-at i }
 
 -- sections that stand behind p up to the zero word are read; t is a variable, so that nothing rewrites it
-read-chunks : (t p : List ℕ) (at : ℕ) {ss : List Sect} → All Valid ss → t ≡ p ++ (chunks ss ++ wordBytes 0) → at ≡ length p
+read-chunks : (t p : List ℕ) (at : ℕ) {ss : List Sect} → All Valid ss → All ZeroPads ss → t ≡ p ++ (chunks ss ++ headerBytes 0) → at ≡ length p
     → readOn t at ≡ record { sections = ss; fault = 0; place = 0 }
 unfolding chunks before
-read-chunks t p at none e l =
-    let z : wordAt t at ≡ 0 = rw (e, l) (word-seam p (wordBytes 0) ∙ rw append-nil at (word-bytes 0 [] (omega arith))) in
-    read-end t at (end-step t at (rw e (simp (length-append, length-word) (omega arith))) z)
-read-chunks t p at (also {s = s} {ss = ss} v vs) e l =
-    let q = chunks ss ++ wordBytes 0 in
+read-chunks t p at none z e l =
+    let zero : headerAt t at ≡ 0 = rw (e, l) (header-seam p (headerBytes 0) ∙ rw append-nil at (header-bytes 0 [] (omega arith))) in
+    read-end t at (end-step t at (rw e (simp (length-append, length-header) (omega arith))) zero)
+read-chunks t p at (also {s = s} {ss = ss} v vs) (also z zs) e l =
+    let q = chunks ss ++ headerBytes 0 in
     let f : t ≡ p ++ (chunk s ++ q) = e ∙ simp append-assoc in
-    let i : IsSection t at (s .address) (length (s .body)) (at + 8) (at + length (chunk s)) = rw (f, l) (chunk-at p q s v) in
+    let i : IsSection t at (s .address) (length (s .body)) (at + 8) (at + length (chunk s)) = rw (f, l) (chunk-at p q s v z) in
     let b : sectionAt t at (s .address) (length (s .body)) ≡ s = rw (f, l) (section-at p q s v) in
     let r : readOn t (at + length (chunk s)) ≡ record { sections = ss; fault = 0; place = 0 } =
-    read-chunks t (p ++ chunk s) (at + length (chunk s)) vs (f ∙ simp append-assoc) (simp length-append (omega arith)) in
+    read-chunks t (p ++ chunk s) (at + length (chunk s)) vs zs (f ∙ simp append-assoc) (simp length-append (omega arith)) in
     read-section t at (section-step t at i) ∙ rw (b, r) refl
 
--- Valid sections that are written as a table are read back from it, without a fault.
-pub read-table : (entry : ℕ) (ss : List Sect) → All Valid ss → reading (table entry ss) ≡ record { sections = ss; fault = 0; place = 0 }
-unfolding table reading
-read-table entry ss v =
-    rw (le-ltb (length (table entry ss)) 4 (simp (length-append, length-word) (omega arith)))
-    (read-chunks (table entry ss) (wordBytes entry) 4 v (simp append-assoc) (sym (length-word entry)))
+-- Valid sections with zero pads that are written as a table are read back from it, without a fault.
+pub read-table : (entry : ℕ) (ss : List Sect) → All Valid ss → All ZeroPads ss → reading (tableOf entry ss) ≡ record { sections = ss; fault = 0; place = 0 }
+unfolding tableOf reading
+read-table entry ss v z =
+    rw (le-ltb (length (tableOf entry ss)) 4 (simp (length-append, length-header) (omega arith)))
+    (read-chunks (tableOf entry ss) (headerBytes entry) 4 v z (simp append-assoc) (sym (length-header entry)))
 
 -- The entry is read back too.
-pub entry-table : (entry : ℕ) (ss : List Sect) → entry < 2 ^ 32 → wordAt (table entry ss) 0 ≡ entry
-unfolding table
-entry-table entry ss h = simp append-assoc (word-bytes entry (chunks ss ++ wordBytes 0) h)
+pub entry-table : (entry : ℕ) (ss : List Sect) → entry < 2 ^ 32 → entryOf (tableOf entry ss) ≡ entry
+unfolding tableOf
+entry-table entry ss h = simp append-assoc (header-bytes entry (chunks ss ++ headerBytes 0) h)
 
 -- ---- read, then written
 
@@ -168,20 +164,20 @@ module _ (t : List ℕ) (b : Bytes t) where
       let e2 : drop (at + 4) t ≡ take 4 (drop (at + 4) t) ++ drop (at + 8) t = peel t (at + 4) 4 (at + 8) (omega arith) in
       let e3 : drop (at + 8) t ≡ body ++ drop (at + 8 + size) t = peel t (at + 8) size (at + 8 + size) refl in
       let e4 : drop (at + 8 + size) t ≡ pads ++ drop next t = peel t (at + 8 + size) (padCount size) next (omega (arith, i .next-is)) in
-      let w1 : wordBytes size ≡ take 4 (drop at t) = rw (i .size-is) (bytes-word t at b (omega (arith, i .head))) in
-      let w2 : wordBytes address ≡ take 4 (drop (at + 4) t) = rw (i .address-is) (bytes-word t (at + 4) b (omega (arith, i .head))) in
+      let w1 : headerBytes size ≡ take 4 (drop at t) = rw (i .size-is) (bytes-header t at b (omega (arith, i .head))) in
+      let w2 : headerBytes address ≡ take 4 (drop (at + 4) t) = rw (i .address-is) (bytes-header t (at + 4) b (omega (arith, i .head))) in
       let l : length body ≡ size = length-body t at i in
       simp append-assoc (cc)
 
   -- the bytes from an offset on are those of the sections that are read, and the zero word
-  read-bytes : (at : ℕ) → readOn t at .fault ≡ 0 → drop at t ≡ chunks (readOn t at .sections) ++ wordBytes 0
+  read-bytes : (at : ℕ) → readOn t at .fault ≡ 0 → drop at t ≡ chunks (readOn t at .sections) ++ headerBytes 0
   unfolding chunks before
-  read-bytes = whole-ind t (λ (at : ℕ). drop at t ≡ chunks (readOn t at .sections) ++ wordBytes 0)
+  read-bytes = whole-ind t (λ (at : ℕ). drop at t ≡ chunks (readOn t at .sections) ++ headerBytes 0)
       (λ at e.
       let z = end-of t at e in
-      let w : wordBytes (wordAt t at) ≡ take 4 (drop at t) = bytes-word t at b (omega arith) in
+      let w : headerBytes (headerAt t at) ≡ take 4 (drop at t) = bytes-header t at b (omega arith) in
       let a : take 4 (drop at t) ≡ drop at t = take-all 4 (drop at t) (simp length-drop (omega arith)) in
-      rw (read-end t at e) (sym (ap wordBytes (sym (z .1)) ∙ w ∙ a)))
+      rw (read-end t at e) (sym (ap headerBytes (sym (z .1)) ∙ w ∙ a)))
       (λ at address size start next e g on.
       rw (read-section t at e) (section-bytes at (section-of t at e) ∙ rw on (simp append-assoc)))
 
@@ -193,9 +189,9 @@ module _ (t : List ℕ) (b : Bytes t) where
       let n = length-pads t at i in
       record {
         some = rw l (i .some);
-        small = rw (l, i .size-is) (word-lt t at b);
+        small = rw (l, i .size-is) (header-lt t at b);
         top = rw l (i .top);
-        zeros = rw l (all-zeros (padsAt t at size) (i .zeros) ∙ ap (λ (k : ℕ). replicate k 0) n);
+        padded = rw l n;
       }
 
   read-valid : (at : ℕ) → readOn t at .fault ≡ 0 → All Valid (readOn t at .sections)
@@ -204,34 +200,44 @@ module _ (t : List ℕ) (b : Bytes t) where
       (λ at e. rw (read-end t at e) none)
       (λ at address size start next e g on. rw (read-section t at e) (also (section-valid at (section-of t at e)) on))
 
+-- and its pads are zero
+read-zeros : (t : List ℕ) (at : ℕ) → readOn t at .fault ≡ 0 → All ZeroPads (readOn t at .sections)
+unfolding before sectionAt
+read-zeros t = whole-ind t (λ (at : ℕ). All ZeroPads (readOn t at .sections))
+    (λ at e. rw (read-end t at e) none)
+    (λ at address size start next e g on. rw (read-section t at e) (also (all-zeros (padsAt t at size) (section-of t at e .zeros)) on))
+
 module _ (t : List ℕ) (b : Bytes t) (w : WellFormed t) where
   -- the entry word of a well-formed table
-  pub read-head : take 4 t ≡ wordBytes (wordAt t 0)
-  read-head = sym (bytes-word t 0 b (omega (arith, well-long t w)))
+  pub read-head : take 4 t ≡ headerBytes (entryOf t)
+  read-head = sym (bytes-header t 0 b (omega (arith, well-long t w)))
 
   -- its sections and its zero word
-  past-head : drop 4 t ≡ chunks (reading t .sections) ++ wordBytes 0
+  past-head : drop 4 t ≡ chunks (reading t .sections) ++ headerBytes 0
   past-head = let r = well-read t w in rw (r .0) (read-bytes t b 4 (r .1))
 
   -- A well-formed table is the table of its entry and of the sections that are read from it.
-  pub table-read : table (wordAt t 0) (reading t .sections) ≡ t
-  unfolding table
+  pub table-read : tableOf (entryOf t) (reading t .sections) ≡ t
+  unfolding tableOf
   table-read = simp append-assoc (rw (← past-head, ← read-head) (take-append-drop 4 t))
 
-  -- Those sections are valid.
+  -- Those sections are valid, with zero pads.
   pub valid-read : All Valid (reading t .sections)
   valid-read = let r = well-read t w in rw (r .0) (read-valid t b 4 (r .1))
 
+  pub zeros-read : All ZeroPads (reading t .sections)
+  zeros-read = let r = well-read t w in rw (r .0) (read-zeros t 4 (r .1))
+
   -- their bytes are all but eight of the table's
   pub length-read : length t ≡ 8 + length (chunks (reading t .sections))
-  length-read = ap length (sym table-read) ∙ length-table (wordAt t 0) (reading t .sections)
+  length-read = ap length (sym table-read) ∙ length-table (entryOf t) (reading t .sections)
 
   -- the sections by themselves
   pub read-middle : take (length t - 8) (drop 4 t) ≡ chunks (reading t .sections)
-  read-middle = ap (take (length t - 8)) past-head ∙ take-at (chunks (reading t .sections)) (wordBytes 0) (length t - 8) (omega (arith, length-read))
+  read-middle = ap (take (length t - 8)) past-head ∙ take-at (chunks (reading t .sections)) (headerBytes 0) (length t - 8) (omega (arith, length-read))
 
   -- the zero word by itself
-  pub read-zero : drop (length t - 4) t ≡ wordBytes 0
+  pub read-zero : drop (length t - 4) t ≡ headerBytes 0
   read-zero =
       let n : 4 + (length t - 8) ≡ length t - 4 = omega (arith, length-read) in
-      rw (← n, ← (drop-drop (length t - 8) 4 t), past-head) (drop-at (chunks (reading t .sections)) (wordBytes 0) (length t - 8) (omega (arith, length-read)))
+      rw (← n, ← (drop-drop (length t - 8) 4 t), past-head) (drop-at (chunks (reading t .sections)) (headerBytes 0) (length t - 8) (omega (arith, length-read)))

@@ -7,19 +7,18 @@ use mathlib.Core.Logic.{⊎-elim}
 use native.Mathlib.Numerals.{add-one}
 use native.Mathlib.Omega.{arith}
 use borrow.Author.Tests.{eq-eqb, ne-eqb, lt-ltb, le-ltb, ltb-true, ltb-false, eqb-true, eqb-false, not-false}
-use lib.ListN.{length, getD, take, drop, length-append, length-drop}
+use lib.ListN.{length, getD, take, drop, length-drop}
 use lib.Seq.{drop-cons, length-take-le}
 use lib.Dec.{ltb, eqb}
 use types.Run.{OneOf}
 use denote.Enum.Declared.{tagOf}
-use Rattle.words.specs.Word.{wordAt, padCount}
+use Rattle.words.specs.Word.{padCount}
 use Rattle.words.specs.Refusal.{TABLE-CUT, PAD-NOT-ZERO, BYTES-AFTER, PAST-TOP}
 use Rattle.words.proofs.ChoiceLaws.{if-split}
-use Rattle.words.proofs.WordLaws.{length-word}
 use Rattle.boot_table.proofs.Step.{the-type}
 use Rattle.boot_table.specs.declared.Step.{Step}
 use Rattle.boot_table.specs.declared.Step.the-variants.{Section, End, Fault}
-use Rattle.boot_table.specs.Table.{chunk, allZero, padsAt, nextOf, endStep, sectionStep, stepAt, sectionAt}
+use Rattle.boot_table.specs.Table.{headerAt, allZero, padsAt, nextOf, endStep, sectionStep, stepAt, sectionAt}
 
 -- ---- zero bytes
 
@@ -34,12 +33,12 @@ unfolding allZero
 zero-off l i h e = rw (drop-cons l i 0) (simp (ne-eqb _ _ e))
 
 -- the answer on the part that the code cuts out is the answer on the pads
-pub pads-found : (t : List ℕ) (at size pads : ℕ) (b : Bool) → pads ≡ padCount size
-    → b ≡ allZero (take (at + 8 + (size + pads) - (at + 8 + size)) (drop (at + 8 + size) t)) → allZero (padsAt t at size) ≡ b
+pub pads-found : (t : List ℕ) (at size all : ℕ) (b : Bool) → all ≡ size + padCount size
+    → b ≡ allZero (take (at + 8 + all - (at + 8 + size)) (drop (at + 8 + size) t)) → allZero (padsAt t at size) ≡ b
 unfolding padsAt
-pads-found t at size pads b e f =
-    let k : at + 8 + (size + pads) - (at + 8 + size) ≡ pads = omega arith in
-    rw (← e) (sym (rw k at f))
+pads-found t at size all b e f =
+    let k : at + 8 + all - (at + 8 + size) ≡ padCount size = omega arith in
+    sym (rw k at f)
 
 -- ---- when a step comes out as a fault
 
@@ -49,15 +48,15 @@ unfolding stepAt
 step-cut t at h = simp (lt-ltb _ _ h)
 
 -- room for it: the step goes by the size
-step-zero : (t : List ℕ) (at size : ℕ) → at + 4 ≤ length t → size ≡ wordAt t at → size ≡ 0 → stepAt t at ≡ endStep t at
+step-zero : (t : List ℕ) (at size : ℕ) → at + 4 ≤ length t → size ≡ headerAt t at → size ≡ 0 → stepAt t at ≡ endStep t at
 unfolding stepAt
 step-zero t at size head es z = rw (← es) (simp (le-ltb _ _ head, eq-eqb _ _ z))
 
-step-some : (t : List ℕ) (at size : ℕ) → at + 4 ≤ length t → size ≡ wordAt t at → (size ≡ 0 → ⊥) → stepAt t at ≡ sectionStep t at size (wordAt t (at + 4))
+step-some : (t : List ℕ) (at size : ℕ) → at + 4 ≤ length t → size ≡ headerAt t at → (size ≡ 0 → ⊥) → stepAt t at ≡ sectionStep t at size (headerAt t (at + 4))
 unfolding stepAt
 step-some t at size head es z = rw (← es) (simp (le-ltb _ _ head, ne-eqb _ _ z))
 
-module _ (t : List ℕ) (at size : ℕ) (head : at + 4 ≤ length t) (es : size ≡ wordAt t at) where
+module _ (t : List ℕ) (at size : ℕ) (head : at + 4 ≤ length t) (es : size ≡ headerAt t at) where
   -- bytes after the zero word
   pub step-after : size ≡ 0 → at + 4 < length t → stepAt t at ≡ Fault BYTES-AFTER (at + 4)
   unfolding endStep
@@ -68,7 +67,7 @@ module _ (t : List ℕ) (at size : ℕ) (head : at + 4 ≤ length t) (es : size 
   unfolding sectionStep
   step-short z h = step-some t at size head es z ∙ simp (lt-ltb _ _ h)
 
-  module _ (address : ℕ) (z : size ≡ 0 → ⊥) (within : nextOf at size ≤ length t) (ea : address ≡ wordAt t (at + 4)) where
+  module _ (address : ℕ) (z : size ≡ 0 → ⊥) (within : nextOf at size ≤ length t) (ea : address ≡ headerAt t (at + 4)) where
     -- addresses past the top
     pub step-high : 2 ^ 32 < address + size → stepAt t at ≡ Fault PAST-TOP at
     unfolding sectionStep
@@ -88,8 +87,8 @@ pub record IsSection (t : List ℕ) (at address size start next : ℕ) : Type 0 
   pub within : next ≤ length t
   pub some : 1 ≤ size
   pub head : at + 8 ≤ length t
-  pub size-is : size ≡ wordAt t at
-  pub address-is : address ≡ wordAt t (at + 4)
+  pub size-is : size ≡ headerAt t at
+  pub address-is : address ≡ headerAt t (at + 4)
   pub top : address + size ≤ 2 ^ 32
   pub zeros : allZero (padsAt t at size) ≡ true
 
@@ -106,23 +105,23 @@ section-step t at {address} {size} i =
     ))
 
 -- a zero word at the end of the table is its end
-pub end-step : (t : List ℕ) (at : ℕ) → length t ≡ at + 4 → wordAt t at ≡ 0 → stepAt t at ≡ End
+pub end-step : (t : List ℕ) (at : ℕ) → length t ≡ at + 4 → headerAt t at ≡ 0 → stepAt t at ≡ End
 unfolding endStep
-end-step t at l z = step-zero t at (wordAt t at) (omega arith) refl z ∙ simp (le-ltb (at + 4) (length t) (omega arith))
+end-step t at l z = step-zero t at (headerAt t at) (omega arith) refl z ∙ simp (le-ltb (at + 4) (length t) (omega arith))
 
 -- ---- what an outcome says of the table
 
 -- the facts of each outcome
 Says : List ℕ → ℕ → Step → Type 0
 Says t at (Section address size start next) = IsSection t at address size start next
-Says t at End = (length t ≡ at + 4) × (wordAt t at ≡ 0)
+Says t at End = (length t ≡ at + 4) × (headerAt t at ≡ 0)
 Says t at (Fault number place) = (1 ≤ number) × (number ≤ 8) × (at ≤ length t → place ≤ length t)
 
 section-says : (t : List ℕ) (at address size start next : ℕ) (s : Step) → IsSection t at address size start next → Section address size start next ≡ s → Says t at s
 unfolding Says
 section-says t at address size start next s i e = subst (Says t at) e i
 
-end-says : (t : List ℕ) (at : ℕ) (s : Step) → length t ≡ at + 4 → wordAt t at ≡ 0 → End ≡ s → Says t at s
+end-says : (t : List ℕ) (at : ℕ) (s : Step) → length t ≡ at + 4 → headerAt t at ≡ 0 → End ≡ s → Says t at s
 unfolding Says
 end-says t at s l z e = subst (Says t at) e (l, z)
 
@@ -136,22 +135,22 @@ unfolding stepAt endStep sectionStep nextOf
 step-says t at s e =
     if-split (ltb (length t) (at + 4)) _ _ s e
     (λ h1. fault-says t at _ _ s (omega arith, omega arith, λ h. h))
-    (λ h1 e1. if-split (eqb (wordAt t at) 0) _ _ s e1
+    (λ h1 e1. if-split (eqb (headerAt t at) 0) _ _ s e1
     (λ h2 e2. if-split (ltb (at + 4) (length t)) _ _ s e2
     (λ h3. fault-says t at _ _ s (omega arith, omega arith, λ h. omega (arith, ltb-true (at + 4) (length t) h3)))
     (λ h3. end-says t at s (omega (arith, ltb-false (length t) (at + 4) h1, ltb-false (at + 4) (length t) h3)) (eqb-true _ _ h2)))
-    (λ h2 e2. if-split (ltb (length t) (nextOf at (wordAt t at))) _ _ s e2
+    (λ h2 e2. if-split (ltb (length t) (nextOf at (headerAt t at))) _ _ s e2
     (λ h3. fault-says t at _ _ s (omega arith, omega arith, λ h. h))
-    (λ h3 e3. if-split (ltb (2 ^ 32) (wordAt t (at + 4) + wordAt t at)) _ _ s e3
+    (λ h3 e3. if-split (ltb (2 ^ 32) (headerAt t (at + 4) + headerAt t at)) _ _ s e3
     (λ h4. fault-says t at _ _ s (omega arith, omega arith, λ h. h))
-    (λ h4 e4. if-split (not (allZero (padsAt t at (wordAt t at)))) _ _ s e4
+    (λ h4 e4. if-split (not (allZero (padsAt t at (headerAt t at)))) _ _ s e4
     (λ h5. fault-says t at _ _ s (omega arith, omega arith, λ h. h))
     (λ h5. section-says t at _ _ _ _ s (record {
       start-is = refl;
       next-is = refl;
       within = ltb-false _ _ h3;
-      some = omega (arith, eqb-false (wordAt t at) 0 h2);
-      head = omega (arith, ltb-false (length t) (at + 8 + wordAt t at + padCount (wordAt t at)) h3);
+      some = omega (arith, eqb-false (headerAt t at) 0 h2);
+      head = omega (arith, ltb-false (length t) (at + 8 + headerAt t at + padCount (headerAt t at)) h3);
       size-is = refl;
       address-is = refl;
       top = ltb-false _ _ h4;
@@ -164,7 +163,7 @@ unfolding Says
 section-of t at {address} {size} {start} {next} e = step-says t at (Section address size start next) e
 
 -- the end is the end of the table, at a zero word
-pub end-of : (t : List ℕ) (at : ℕ) → stepAt t at ≡ End → (length t ≡ at + 4) × (wordAt t at ≡ 0)
+pub end-of : (t : List ℕ) (at : ℕ) → stepAt t at ≡ End → (length t ≡ at + 4) × (headerAt t at ≡ 0)
 unfolding Says
 end-of t at e = step-says t at End e
 
@@ -184,8 +183,6 @@ end-left (Section address size start next) p q = absurd (⊎-elim (λ e. omega a
 end-left End p q = refl
 end-left (Fault number place) p q = absurd (⊎-elim (λ e. omega arith) (λ e. omega arith) q)
 
--- neither a section nor the end
-
 -- ---- the section itself
 
 module _ (t : List ℕ) (at : ℕ) {address size start next : ℕ} (i : IsSection t at address size start next) where
@@ -203,8 +200,3 @@ module _ (t : List ℕ) (at : ℕ) {address size start next : ℕ} (i : IsSectio
   pub length-pads : length (padsAt t at size) ≡ padCount size
   unfolding padsAt
   length-pads = length-take-le (padCount size) (drop (at + 8 + size) t) (simp length-drop (omega (arith, i .next-is, i .within)))
-
-  -- its bytes end where the next section stands
-  pub chunk-next : at + length (chunk (sectionAt t at address size)) ≡ next
-  unfolding chunk sectionAt
-  chunk-next = simp (length-append, length-word) (omega (arith, length-body, length-pads, i .next-is))

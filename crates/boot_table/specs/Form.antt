@@ -10,8 +10,8 @@ use Rattle.boot_table.specs.declared.Form.{Form}
 use Rattle.boot_table.specs.Table.{Sect, Reading, reading}
 
 -- how many bytes a table has at most
-abbrev pub limit : ℕ
-limit = 16777216
+abbrev pub tableLimit : ℕ
+tableLimit = 16777216
 
 -- how many data bytes sections have together
 unfoldable pub total : List Sect → ℕ
@@ -30,9 +30,9 @@ readForm r = if (eqb (r .fault) 0) (formed (length (r .sections)) (total (r .sec
 
 -- the form of a table: its limit, and then its first fault in table order
 unfoldable pub formOf : List ℕ → Form
-formOf t = if (ltb limit (length t)) (misformed TABLE-LONG 0) (readForm (reading t))
+formOf t = if (ltb tableLimit (length t)) (misformed TABLE-LONG 0) (readForm (reading t))
 
 -- a table is well-formed: within the limit, and read to its end without a fault
 pub record WellFormed (t : List ℕ) : Type 0 where
-  pub short : length t ≤ limit
+  pub short : length t ≤ tableLimit
   pub whole : reading t .fault ≡ 0

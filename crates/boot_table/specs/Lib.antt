@@ -1,4 +1,5 @@
 pub mod Table
 pub mod Form
+pub mod Walk
 pub mod Meaning
 pub mod Valid

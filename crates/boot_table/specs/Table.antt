@@ -10,6 +10,20 @@ use Rattle.words.specs.Refusal.{TABLE-CUT, PAD-NOT-ZERO, BYTES-AFTER, PAST-TOP}
 use Rattle.boot_table.specs.declared.Step.{Step}
 use Rattle.boot_table.specs.declared.Step.the-variants.{Section, End, Fault}
 
+-- ---- header words
+
+-- a header word of a table, which is its entry or a section's size or address: as it is read at an offset
+unfoldable pub headerAt : List ℕ → ℕ → ℕ
+headerAt t at = wordAt t at
+
+-- and the bytes that it is written as
+unfoldable pub headerBytes : ℕ → List ℕ
+headerBytes n = wordBytes n
+
+-- the entry word of a table
+abbrev pub entryOf : List ℕ → ℕ
+entryOf t = headerAt t 0
+
 -- ---- sections as data
 
 -- a section: its address, its data bytes, and the pad bytes after them
@@ -20,15 +34,15 @@ pub record Sect : Type 0 where
 
 -- the bytes of a section: size word, address word, data, pads
 unfoldable pub chunk : Sect → List ℕ
-chunk s = wordBytes (length (s .body)) ++ wordBytes (s .address) ++ s .body ++ s .pads
+chunk s = headerBytes (length (s .body)) ++ headerBytes (s .address) ++ s .body ++ s .pads
 
 unfoldable pub chunks : List Sect → List ℕ
 chunks [] = []
 chunks (s ∷ ss) = chunk s ++ chunks ss
 
 -- the table of an entry and sections: entry word, sections, zero word
-unfoldable pub table : ℕ → List Sect → List ℕ
-table entry ss = wordBytes entry ++ chunks ss ++ wordBytes 0
+unfoldable pub tableOf : ℕ → List Sect → List ℕ
+tableOf entry ss = headerBytes entry ++ chunks ss ++ headerBytes 0
 
 -- ---- the walk step
 
@@ -60,8 +74,8 @@ sectionStep t at size address =
 unfoldable pub stepAt : List ℕ → ℕ → Step
 stepAt t at =
     if (ltb (length t) (at + 4)) (Fault TABLE-CUT at)
-    (if (eqb (wordAt t at) 0) (endStep t at)
-    (sectionStep t at (wordAt t at) (wordAt t (at + 4))))
+    (if (eqb (headerAt t at) 0) (endStep t at)
+    (sectionStep t at (headerAt t at) (headerAt t (at + 4))))
 
 -- ---- reading a table
 

@@ -6,12 +6,17 @@ use lib.ListN.{length, replicate}
 use Rattle.words.specs.Word.{padCount}
 use Rattle.boot_table.specs.Table.{Sect}
 
--- a valid section: data, a size and an address that fit a word, no address past the top, and zero pads up to a multiple of four
+-- what every section of a well-formed table has: data, a size and an address that fit a word, no address past the top,
+-- and pads up to a multiple of four
 pub record Valid (s : Sect) : Type 0 where
   pub some : 1 ≤ length (s .body)
   pub small : length (s .body) < 2 ^ 32
   pub top : s .address + length (s .body) ≤ 2 ^ 32
-  pub zeros : s .pads ≡ replicate (padCount (length (s .body))) 0
+  pub padded : length (s .pads) ≡ padCount (length (s .body))
+
+-- the pads of a section are zero
+abbrev pub ZeroPads : Sect → Type 0
+ZeroPads s = s .pads ≡ replicate (length (s .pads)) 0
 
 -- every section of a list has the property P
 pub data All (P : Sect → Type 0) : List Sect → Type 0 where

@@ -1,9 +1,11 @@
 // The boot table: one walk step, and the form of a whole table.
 ghost use mathlib.Core.Path.{_≡_};
-ghost use Rattle.boot_table.specs.Table.{allZero, stepAt};
+ghost use Prim.Native.Nat.{_+_, _≤_};
+ghost use lib.ListN.{length};
+ghost use Rattle.boot_table.specs.Table.{headerAt, entryOf, allZero, stepAt, readOn};
 ghost use Rattle.boot_table.specs.Form.{misformed, formOf};
 use words::TOP;
-use words::pad_count;
+use words::padded;
 use words::refusal::BYTES_AFTER;
 use words::refusal::PAD_NOT_ZERO;
 use words::refusal::PAST_TOP;
@@ -12,7 +14,7 @@ use words::refusal::TABLE_LONG;
 use words::word_at;
 
 // How many bytes a table has at most.
-pub const LIMIT: usize = 16_777_216;
+pub const TABLE_LIMIT: usize = 16_777_216;
 
 // What stands at an offset: a section, whose data begins at start and after which next stands; the end; or a fault.
 pub enum Step {
@@ -35,6 +37,22 @@ pub struct Form {
     pub place: usize,
     pub sections: usize,
     pub bytes: usize,
+}
+
+// A header word of a table, which is its entry or a section's size or address.
+fn header_at(table: &[u8], at: usize) -> u32
+    requires { ⌜ at + 4 ≤ length (now table) ⌝ }
+    ensures { λ r. ⌜ r ≡ headerAt (now (table .entry)) at ⌝ }
+{
+    word_at(table, at)
+}
+
+// The entry word of a table.
+pub fn entry_of(table: &[u8]) -> u32
+    requires { ⌜ 4 ≤ length (now table) ⌝ }
+    ensures { λ r. ⌜ r ≡ entryOf (now (table .entry)) ⌝ }
+{
+    header_at(table, 0)
 }
 
 fn all_zero(bytes: &[u8]) -> bool
@@ -71,18 +89,18 @@ pub fn step_at(table: &[u8], at: usize) -> Step
     if room < 4 {
         return cut;
     }
-    let size = word_at(table, at) as usize;
+    let size = header_at(table, at) as usize;
     if size == 0 {
         if room == 4 {
             return Step::End;
         }
         return fault(BYTES_AFTER, at + 4);
     }
-    let padded = size + pad_count(size);
+    let padded = padded(size);
     if room < 8 + padded {
         return cut;
     }
-    let address = word_at(table, at + 4);
+    let address = header_at(table, at + 4);
     if TOP < address as u64 + size as u64 {
         return fault(PAST_TOP, at);
     }
@@ -97,6 +115,26 @@ pub fn step_at(table: &[u8], at: usize) -> Step
         size: size,
         start: start,
         next: next,
+    }
+}
+
+// The walk step of a table that has no fault from the offset on: only the end is told from a section.
+pub fn whole_step(table: &[u8], at: usize) -> Step
+    requires { ⌜ readOn (now table) at .fault ≡ 0 ⌝ }
+    ensures { λ r. ⌜ r ≡ stepAt (now (table .entry)) at ⌝ }
+{
+    let size = header_at(table, at) as usize;
+    if size == 0 {
+        return Step::End;
+    }
+    let start = at + 8;
+    let address = header_at(table, at + 4);
+    let next = start + padded(size);
+    Step::Section {
+        address,
+        size,
+        start,
+        next,
     }
 }
 
@@ -115,7 +153,7 @@ fn misformed(number: u32, place: usize) -> Form
 pub fn form_of(table: &[u8]) -> Form
     ensures { λ r. ⌜ r ≡ formOf (now (table .entry)) ⌝ }
 {
-    if LIMIT < table.len() {
+    if TABLE_LIMIT < table.len() {
         return misformed(TABLE_LONG, 0);
     }
     if table.len() < 4 {

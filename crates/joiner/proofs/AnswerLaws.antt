@@ -1,14 +1,14 @@
 -- What joining answers and what the output holds, by the tests that lead there.
 use Prim.Native.Nat.{ℕ, _+_, _≤_, _<_}
 use mathlib.Core.Path.{_≡_}
-use mathlib.Core.List.{List, _++_}
+use mathlib.Core.List.{List}
 use borrow.Author.Tests.{eq-eqb, ne-eqb, lt-ltb, le-ltb}
-use lib.ListN.{length, drop}
-use Rattle.words.specs.Refusal.{JOIN-LONG, OUTPUT-SHORT}
+use lib.ListN.{length}
+use Rattle.words.specs.Refusal.{RESULT-LONG, OUTPUT-SHORT}
 use Rattle.boot_table.specs.declared.Form.{Form}
-use Rattle.boot_table.specs.Form.{limit, formOf}
+use Rattle.boot_table.specs.Form.{tableLimit, formOf}
 use Rattle.joiner.specs.declared.Joined.{Joined}
-use Rattle.joiner.specs.Join.{joined, joinedLength, joinRefused, joinAnswer, joinOutput}
+use Rattle.joiner.specs.Join.{joinedLength, joinedOver, joinRefused, joinAnswer, joinOutput}
 
 -- ---- each answer: f is the first table's form, g the second's
 
@@ -23,16 +23,16 @@ module _ (a b : List ℕ) (room : ℕ) (f : Form) (ef : f ≡ formOf a) where
     second-refused n = rw (← ef, ← eg) (simp (eq-eqb _ _ fz, ne-eqb _ _ n))
 
     module _ (gz : g .number ≡ 0) where
-      pub join-long : limit < joinedLength a b → joinRefused JOIN-LONG 0 0 ≡ joinAnswer a b room
+      pub join-long : tableLimit < joinedLength a b → joinRefused RESULT-LONG 0 0 ≡ joinAnswer a b room
       unfolding joinAnswer
       join-long h = rw (← ef, ← eg) (simp (eq-eqb _ _ fz, eq-eqb _ _ gz, lt-ltb _ _ h))
 
-      pub output-short : joinedLength a b ≤ limit → room < joinedLength a b → joinRefused OUTPUT-SHORT 0 0 ≡ joinAnswer a b room
+      pub output-short : joinedLength a b ≤ tableLimit → room < joinedLength a b → joinRefused OUTPUT-SHORT 0 0 ≡ joinAnswer a b room
       unfolding joinAnswer
       output-short h k = rw (← ef, ← eg) (simp (eq-eqb _ _ fz, eq-eqb _ _ gz, le-ltb _ _ h, lt-ltb _ _ k))
 
-      pub join-done : joinedLength a b ≤ limit → joinedLength a b ≤ room
-          → record { number = 0; place = 0; table = 0; length = joinedLength a b; sections = f .sections + g .sections } ≡ joinAnswer a b room
+      pub join-done : joinedLength a b ≤ tableLimit → joinedLength a b ≤ room
+          → record { number = 0; place = 0; which = 0; length = joinedLength a b; sections = f .sections + g .sections } ≡ joinAnswer a b room
       unfolding joinAnswer
       join-done h k = rw (← ef, ← eg) (simp (eq-eqb _ _ fz, eq-eqb _ _ gz, le-ltb _ _ h, le-ltb _ _ k))
 
@@ -43,6 +43,6 @@ module _ (a b out : List ℕ) (r : Joined) (e : r ≡ joinAnswer a b (length out
   unfolding joinOutput
   output-kept n = rw (← e) (simp (ne-eqb _ _ n))
 
-  pub output-joined : r .number ≡ 0 → joined a b ++ drop (joinedLength a b) out ≡ joinOutput a b out
+  pub output-joined : r .number ≡ 0 → joinedOver a b out ≡ joinOutput a b out
   unfolding joinOutput
   output-joined z = rw (← e) (simp (eq-eqb _ _ z))

@@ -10,7 +10,7 @@ use Rattle.words.specs.Run.{over}
 use Rattle.words.proofs.RunLaws.{over-front, over-over}
 use Rattle.boot_table.specs.Form.{WellFormed}
 use Rattle.boot_table.proofs.FormLaws.{well-long}
-use Rattle.joiner.specs.Join.{joined, joinedLength}
+use Rattle.joiner.specs.Join.{joined, joinedLength, sectionBytes, joinedOver}
 use Rattle.joiner.proofs.JoinLaws.{length-joined, joined-bytes}
 
 -- two parts of a table, one right behind the other
@@ -25,19 +25,21 @@ pub copy-section : (t d : List ℕ) (from at next to : ℕ) → 4 ≤ at → at 
     → over (over d from (take (at - 4) (drop 4 t))) to (take (next - at) (drop at t)) ≡ over d from (take (next - 4) (drop 4 t))
 copy-section t d from at next to h k within place fits =
     let n : length (take (at - 4) (drop 4 t)) ≡ at - 4 = length-take-le (at - 4) (drop 4 t) (simp length-drop (omega arith)) in
-    over-over d from (take (at - 4) (drop 4 t)) (omega arith) (take (next - at) (drop at t)) to (omega arith) ∙ ap (over d from) (part-part t at next h k)
+    over-over d from (take (at - 4) (drop 4 t)) (omega arith) (take (next - at) (drop at t)) to (omega arith)
+    ∙ ap (over d from) (part-part t at next h k)
 
 -- the entry word of b, the sections of a and of b, and the zero word of b, written one after another, are the join
-pub parts-joined : (a b d : List ℕ) → Bytes a → Bytes b → WellFormed a → WellFormed b → joinedLength a b ≤ length d → (middle end : ℕ) → middle + 8 ≡ 4 + length a → end + 8 ≡ middle + length b
-    → over (over (over (over d 0 (take 4 b)) 4 (take (length a - 8) (drop 4 a))) middle (take (length b - 8) (drop 4 b))) end (drop (length b - 4) b)
-    ≡ joined a b ++ drop (joinedLength a b) d
+pub parts-joined : (a b d : List ℕ) → Bytes a → Bytes b → WellFormed a → WellFormed b → joinedLength a b ≤ length d
+    → (middle end : ℕ) → middle + 8 ≡ 4 + length a → end + 8 ≡ middle + length b
+    → over (over (over (over d 0 (take 4 b)) 4 (sectionBytes a)) middle (sectionBytes b)) end (drop (length b - 4) b)
+    ≡ joinedOver a b d
 unfolding joinedLength
 parts-joined a b d p q v w fits middle end em ee =
     let la = well-long a v in
     let lb = well-long b w in
     let h = take 4 b in
-    let x = take (length a - 8) (drop 4 a) in
-    let y = take (length b - 8) (drop 4 b) in
+    let x = sectionBytes a in
+    let y = sectionBytes b in
     let z = drop (length b - 4) b in
     let lh : length h ≡ 4 = length-take-le 4 b (omega arith) in
     let lx : length x ≡ length a - 8 = length-take-le (length a - 8) (drop 4 a) (simp length-drop (omega arith)) in

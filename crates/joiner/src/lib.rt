@@ -1,36 +1,35 @@
 // Joining two boot tables into a lent output.
-ghost use mathlib.Core.List.{_++_};
 ghost use mathlib.Core.Path.{_≡_};
-ghost use Prim.Native.Nat.{_+_, _-_, _≤_};
-ghost use lib.ListN.{length, take, drop};
+ghost use Prim.Native.Nat.{_+_, _≤_};
+ghost use lib.ListN.{length};
 ghost use Rattle.words.specs.Run.{over};
 ghost use Rattle.boot_table.specs.Form.{WellFormed};
-ghost use Rattle.joiner.specs.Join.{joined, joinedLength, joinRefused, joinAnswer, joinOutput};
-use boot_table::LIMIT;
+ghost use Rattle.joiner.specs.Join.{joinedLength, sectionBytes, joinedOver, joinRefused, joinAnswer, joinOutput};
 use boot_table::Step;
+use boot_table::TABLE_LIMIT;
 use boot_table::form_of;
 use boot_table::step_at;
 use words::copy;
-use words::refusal::JOIN_LONG;
 use words::refusal::OUTPUT_SHORT;
+use words::refusal::RESULT_LONG;
 
 // What joining answers. The number is 0 where the output holds the join, and length and sections are then the join's;
 // a refusal has its number and place and the table that it speaks of, 1 or 2, or 0 for the join itself.
 pub struct Joined {
     pub number: u32,
     pub place: usize,
-    pub table: u32,
+    pub which: u32,
     pub length: usize,
     pub sections: usize,
 }
 
-fn refused(number: u32, place: usize, table: u32) -> Joined
-    ensures { λ r. ⌜ r ≡ joinRefused number place table ⌝ }
+fn refused(number: u32, place: usize, which: u32) -> Joined
+    ensures { λ r. ⌜ r ≡ joinRefused number place which ⌝ }
 {
     Joined {
         number: number,
         place: place,
-        table: table,
+        which: which,
         length: 0,
         sections: 0,
     }
@@ -41,7 +40,7 @@ fn copy_sections(table: &[u8], output: &mut [u8], from: usize) -> usize
     requires { ⌜ WellFormed (now table) ⌝ }
     requires { ⌜ from + length (now table) ≤ length (now output) + 8 ⌝ }
     ensures { λ r. ⌜ r + 8 ≡ from + length (now (table .entry)) ⌝ }
-    ensures { λ _. ⌜ now (output .exit) ≡ over (now (output .entry)) from (take (length (now (table .entry)) - 8) (drop 4 (now (table .entry)))) ⌝ }
+    ensures { λ _. ⌜ now (output .exit) ≡ over (now (output .entry)) from (sectionBytes (now (table .entry))) ⌝ }
 {
     let mut at: usize = 4;
     let mut to = from;
@@ -66,7 +65,7 @@ fn copy_sections(table: &[u8], output: &mut [u8], from: usize) -> usize
 fn write_join(first: &[u8], second: &[u8], output: &mut [u8])
     requires { ⌜ WellFormed (now first) × WellFormed (now second) ⌝ }
     requires { ⌜ joinedLength (now first) (now second) ≤ length (now output) ⌝ }
-    ensures { λ _. ⌜ now (output .exit) ≡ joined (now (first .entry)) (now (second .entry)) ++ drop (joinedLength (now (first .entry)) (now (second .entry))) (now (output .entry)) ⌝ }
+    ensures { λ _. ⌜ now (output .exit) ≡ joinedOver (now (first .entry)) (now (second .entry)) (now (output .entry)) ⌝ }
 {
     copy(&second[0..4], output);
     let middle = copy_sections(first, output, 4);
@@ -89,8 +88,8 @@ pub fn join(first: &[u8], second: &[u8], output: &mut [u8]) -> Joined
         return refused(b.number, b.place, 2);
     }
     let size = first.len() + second.len() - 8;
-    if LIMIT < size {
-        return refused(JOIN_LONG, 0, 0);
+    if TABLE_LIMIT < size {
+        return refused(RESULT_LONG, 0, 0);
     }
     if output.len() < size {
         return refused(OUTPUT_SHORT, 0, 0);
@@ -100,7 +99,7 @@ pub fn join(first: &[u8], second: &[u8], output: &mut [u8]) -> Joined
     Joined {
         number: 0,
         place: 0,
-        table: 0,
+        which: 0,
         length: size,
         sections: sections,
     }

@@ -1,24 +1,78 @@
 -- Every bench card holds, by computation on the definitions.
-use mathlib.Core.Path.{refl}
+use Prim.Native.Nat.{ℕ}
+use mathlib.Core.Path.{_≡_, refl}
+use mathlib.Core.List.{List, [], _∷_, map}
 use lib.Count.{ones}
+use lib.ListN.{length}
 use Rattle.words.specs.Word.{wordAt, wordBytes, padCount}
-use Rattle.region_map.specs.Map.{marked, permitted, reserved, zeroed, holds, shares, sharesAny, soundAt, faultFrom, mapFault, anyHolds, isOpen, closedFrom, sizeBefore, holder, placeOf, faultAnswer, mapAnswer}
-use Rattle.boot_table.specs.Table.{chunk, chunks, table, allZero, padsAt, nextOf, endStep, sectionStep, stepAt, sectionAt, before, onStep, readFrom, readOn, reading}
+use Rattle.region_map.specs.Map.{marked, permitted, reserved, known, zeroed, holds, shares, sharesAny, soundAt, faultFrom, mapFault}
+use Rattle.region_map.specs.Map.{anyHolds, isOpen, closedFrom, sizeBefore, holder, placeOf, faultAnswer, mapAnswer}
+use Rattle.boot_table.specs.Table.{headerAt, headerBytes, chunk, chunks, tableOf, allZero, padsAt, nextOf, endStep, sectionStep, stepAt, sectionAt}
+use Rattle.boot_table.specs.Table.{before, onStep, readFrom, readOn, reading}
 use Rattle.boot_table.specs.Form.{total, readForm, formOf}
+use Rattle.loader.specs.declared.Answer.{Answer}
 use Rattle.loader.specs.Store.{storeBytes, storeAll}
-use Rattle.loader.specs.Load.{accepted, mapRule, tableAnswer, loadAnswer, loadMemory}
+use Rattle.loader.specs.Load.{accepted, mapRule, formFirst, tableAnswer, loadAnswer, loadMemory}
+use Rattle.joiner.specs.declared.Joined.{Joined}
 use Rattle.joiner.specs.Join.{joined, joinedLength, joinAnswer, joinOutput}
+use Rattle.boot_config.specs.declared.Configured.{Configured}
 use Rattle.boot_config.specs.Registers.{rising, fit, indexOf, masked, changedBits}
-use Rattle.boot_config.specs.Config.{unmaskedAt, entryAt, onEntry, runFrom, run, configAnswer, configValues}
-use Rattle.boot_strap.specs.Strap.{sleepOrEmif, spi, decodeAs}
-use Rattle.laws.specs.Cards.{AllHold, cards}
+use Rattle.boot_config.specs.Config.{unmaskedAt, entryAt, onEntry, appliedFrom, applied, configAnswer, configValues}
+use Rattle.boot_strap.specs.declared.StrapAnswer.{StrapAnswer}
+use Rattle.boot_strap.specs.Strap.{strapOf, isReserved, decodeAs, decodeShort}
+use Rattle.laws.specs.Cards.{Card, Load, Join, Configure, Decode, DecodeShort, Holds, AllHold, cards}
+
+-- ---- every card holds where the outcomes of the calls are those of the cards
+
+-- what a call gives
+data Outcome : Type 0 where
+  Loads : Answer → List ℕ → Outcome
+  Joins : Joined → List ℕ → Outcome
+  Configures : Configured → List ℕ → Outcome
+  Decodes : StrapAnswer → Outcome
+
+-- what the definitions give for a card's call
+unfoldable given : Card → Outcome
+given (Load m t memory answer after) = Loads (loadAnswer m t (length memory)) (loadMemory m t memory)
+given (Join first second output answer after) = Joins (joinAnswer first second (length output)) (joinOutput first second output)
+given (Configure t addresses values answer after) = Configures (configAnswer t addresses values) (configValues t addresses values)
+given (Decode manner value answer) = Decodes (decodeAs manner value)
+given (DecodeShort value answer) = Decodes (decodeShort value)
+
+-- what the card says
+unfoldable named : Card → Outcome
+named (Load m t memory answer after) = Loads answer after
+named (Join first second output answer after) = Joins answer after
+named (Configure t addresses values answer after) = Configures answer after
+named (Decode manner value answer) = Decodes answer
+named (DecodeShort value answer) = Decodes answer
+
+card-holds : (c : Card) → given c ≡ named c → Holds c
+unfolding given named
+card-holds (Load m t memory answer after) e = (cc, cc)
+card-holds (Join first second output answer after) e = (cc, cc)
+card-holds (Configure t addresses values answer after) e = (cc, cc)
+card-holds (Decode manner value answer) e = cc
+card-holds (DecodeShort value answer) e = cc
+
+all-hold : (cs : List Card) → map given cs ≡ map named cs → AllHold cs
+all-hold [] e = tt
+all-hold (c ∷ cs) e = (card-holds c (cc), all-hold cs (cc))
+
+-- ---- the cards
 
 -- 'unfolding everything' opens all the definitions that a card computes with
 unfoldable everything : Unit {0}
-unfolding ones wordAt wordBytes padCount marked permitted reserved zeroed holds shares sharesAny soundAt faultFrom mapFault anyHolds isOpen closedFrom sizeBefore holder placeOf faultAnswer mapAnswer chunk chunks table allZero padsAt nextOf endStep sectionStep stepAt sectionAt before onStep readFrom readOn reading total readForm formOf storeBytes storeAll accepted mapRule tableAnswer loadAnswer loadMemory joined joinedLength joinAnswer joinOutput rising fit indexOf masked changedBits unmaskedAt entryAt onEntry runFrom run configAnswer configValues sleepOrEmif spi decodeAs
+unfolding given named wordAt wordBytes padCount headerAt headerBytes
+    marked permitted reserved known zeroed holds shares sharesAny soundAt faultFrom mapFault
+    anyHolds isOpen closedFrom sizeBefore holder placeOf faultAnswer mapAnswer
+    chunk chunks tableOf allZero padsAt nextOf endStep sectionStep stepAt sectionAt before onStep readFrom readOn reading
+    total readForm formOf storeBytes storeAll accepted mapRule formFirst tableAnswer loadAnswer loadMemory
+    joined joinedLength joinAnswer joinOutput
+    ones rising fit indexOf masked changedBits unmaskedAt entryAt onEntry appliedFrom applied configAnswer configValues
+    strapOf isReserved decodeAs decodeShort
 everything = tt
 
 pub cards-hold : AllHold cards
 unfolding everything
-cards-hold =
-    ((refl, refl), ((refl, refl), ((refl, refl), ((refl, refl), ((refl, refl), ((refl, refl), ((refl, refl), ((refl, refl), ((refl, refl), ((refl, refl), ((refl, refl), ((refl, refl), ((refl, refl), ((refl, refl), ((refl, refl), ((refl, refl), ((refl, refl), (refl, (refl, (refl, (refl, (refl, (refl, (refl, (refl, (refl, (refl, tt)))))))))))))))))))))))))))
+cards-hold = all-hold cards refl

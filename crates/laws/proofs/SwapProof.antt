@@ -1,26 +1,25 @@
--- Demand 3, the parts about a table of two sections.
+-- Demand 3, the part about a table of two sections.
 use Prim.Native.Nat.{ℕ, _+_}
 use mathlib.Core.Path.{_≡_, refl, sym, _∙_, ap}
-use mathlib.Core.Logic.{_↔_}
 use mathlib.Core.List.{List, [], _∷_, append-nil}
 use mathlib.Core.Bool.{Bool, true, false}
 use mathlib.Core.Option.{Option, some, Option·getD}
 use native.Mathlib.Omega.{arith}
 use lib.ListN.{length, getD, length-append}
-use Rattle.words.specs.Word.{Bytes, wordAt}
-use Rattle.words.proofs.WordLaws.{word-lt}
+use Rattle.words.specs.Word.{Bytes}
+use Rattle.boot_table.proofs.HeaderLaws.{header-lt}
 use Rattle.region_map.specs.Map.{isOpen, placeOf}
-use Rattle.boot_table.specs.Table.{Sect, Reading, chunk, chunks, table, reading}
-use Rattle.boot_table.specs.Form.{total}
+use Rattle.boot_table.specs.Table.{Sect, Reading, chunk, chunks, tableOf, entryOf, reading}
+use Rattle.boot_table.specs.Form.{WellFormed}
 use Rattle.boot_table.specs.Meaning.{covers, byteFor, lastByte}
 use Rattle.boot_table.specs.Valid.{All, none as all-none, also}
-use Rattle.boot_table.proofs.RoundTrip.{length-table, table-read, read-table, entry-table, valid-read}
-use Rattle.loader.specs.Store.{storeAll}
-use Rattle.loader.specs.Load.{accepted, loadAnswer, loadMemory, Opens, Accepted}
-use Rattle.loader.proofs.StoreLaws.{storeAll-at}
+use Rattle.boot_table.proofs.RoundTrip.{length-table, table-read, read-table, entry-table, valid-read, zeros-read}
+use Rattle.loader.specs.Load.{loadAnswer, loadMemory, Opens, Accepted}
 use Rattle.loader.proofs.SameLaws.{same-memory}
-use Rattle.loader.proofs.LoadLaws.{accepted-iff, accepted-answer, accepted-memory}
-use Rattle.laws.specs.Demand3.{Loads, Agree}
+use Rattle.loader.proofs.LoadLaws.{accepted-iff, accepted-memory, loaded-at}
+use Rattle.loader.proofs.AcceptLaws.{exchange-accepted, exchange-answer}
+use Rattle.laws.specs.Calls.{swapOf, swapAnswers}
+use Rattle.laws.specs.Demand3.{Agree, TwoSections, Swapped}
 
 -- ---- the last byte of two sections
 
@@ -43,95 +42,74 @@ last-swap x y a g = go (covers x a) (covers y a) refl refl
 all-swap : {P : Sect → Type 0} {x y : Sect} → All P (x ∷ y ∷ []) → All P (y ∷ x ∷ [])
 all-swap (also p (also q all-none)) = also q (also p all-none)
 
-open-second : (m : List ℕ) {x y : Sect} → All (Opens m) (x ∷ y ∷ []) → (a : ℕ) → covers y a ≡ true → isOpen m a ≡ true
-open-second m (also p (also q all-none)) a c = q a c
-
 length-two : (x y : Sect) → length (chunks (x ∷ y ∷ [])) ≡ length (chunk x) + length (chunk y)
 unfolding chunks
 length-two x y = simp (length-append, append-nil)
 
-module _ (t m mem : List ℕ) (x y : Sect) (bytes : Bytes t) (z : Loads m t mem) (two : reading t .sections ≡ x ∷ y ∷ []) where
+-- ---- an accepted table of two sections, and at every address of the later one its byte
+
+module _ (t m mem : List ℕ) (x y : Sect) (k : Accepted m t (length mem)) (two : reading t .sections ≡ x ∷ y ∷ []) where
+  open-second : (a : ℕ) → covers y a ≡ true → isOpen m a ≡ true
+  open-second = go (rw two at (k .opens))
+    where
+      go : All (Opens m) (x ∷ y ∷ []) → (a : ℕ) → covers y a ≡ true → isOpen m a ≡ true
+      go (also p (also q all-none)) = q
+
+  later-byte : (a : ℕ) → covers y a ≡ true → getD (loadMemory m t mem) (placeOf m a) 0 ≡ byteFor y a
+  later-byte a c =
+      loaded-at m t mem k a (open-second a c)
+      ∙ ap (λ (b : Option ℕ). Option·getD b (getD mem (placeOf m a) 0)) (ap (λ (ss : List Sect). lastByte ss a) two ∙ last-second x y a c)
+
+-- ---- the table with the two swapped
+
+module _ (t m mem : List ℕ) (x y : Sect) (bytes : Bytes t) (s : TwoSections t m mem x y) where
   k : Accepted m t (length mem)
-  k = accepted-iff m t (length mem) .0 z
+  k = accepted-iff m t (length mem) .0 (s .accepted)
 
-  swapped : List ℕ
-  swapped = table (wordAt t 0) (y ∷ x ∷ [])
+  read-swapped : reading (swapOf t x y) ≡ record { sections = y ∷ x ∷ []; fault = 0; place = 0 }
+  read-swapped = read-table (entryOf t) (y ∷ x ∷ []) (all-swap (rw (s .sections) at (valid-read t bytes (k .form)))) (all-swap (rw (s .sections) at (zeros-read t bytes (k .form))))
 
-  -- ---- the swapped table is accepted with the same answer
-
-  read-swapped : reading swapped ≡ record { sections = y ∷ x ∷ []; fault = 0; place = 0 }
-  unfolding swapped
-  read-swapped = read-table (wordAt t 0) (y ∷ x ∷ []) (all-swap (rw two at (valid-read t bytes (k .form))))
-
-  sections-swapped : reading swapped .sections ≡ y ∷ x ∷ []
+  sections-swapped : reading (swapOf t x y) .sections ≡ y ∷ x ∷ []
   sections-swapped = ap (λ (r : Reading). r .sections) read-swapped
 
-  entry-swapped : wordAt swapped 0 ≡ wordAt t 0
-  unfolding swapped
-  entry-swapped = entry-table (wordAt t 0) (y ∷ x ∷ []) (word-lt t 0 bytes)
-
-  length-swapped : length swapped ≡ length t
-  unfolding swapped
+  length-swapped : length (swapOf t x y) ≡ length t
   length-swapped =
-      let e : length (table (wordAt t 0) (x ∷ y ∷ [])) ≡ length t =
-      ap (λ (ss : List Sect). length (table (wordAt t 0) ss)) (sym two) ∙ ap length (table-read t bytes (k .form)) in
+      let e : length (tableOf (entryOf t) (x ∷ y ∷ [])) ≡ length t =
+      ap (λ (ss : List Sect). length (tableOf (entryOf t) ss)) (sym (s .sections)) ∙ ap length (table-read t bytes (k .form)) in
       omega (
         arith,
         e,
-        length-table (wordAt t 0) (y ∷ x ∷ []),
-        length-table (wordAt t 0) (x ∷ y ∷ []),
+        length-table (entryOf t) (y ∷ x ∷ []),
+        length-table (entryOf t) (x ∷ y ∷ []),
         length-two x y,
         length-two y x,
       )
 
-  swapped-accepted : Accepted m swapped (length mem)
-  swapped-accepted = record {
-    sound = k .sound;
-    size = k .size;
-    form = record { short = omega (arith, length-swapped, k .form .short); whole = ap (λ (r : Reading). r .fault) read-swapped };
-    opens = rw sections-swapped (all-swap (rw two at (k .opens)));
-  }
+  form-swapped : WellFormed (swapOf t x y)
+  form-swapped = record { short = omega (arith, length-swapped, k .form .short); whole = ap (λ (r : Reading). r .fault) read-swapped }
 
-  -- the sections' data bytes, whatever their order
-  same-accepted : accepted m swapped ≡ accepted m t
-  unfolding accepted total
-  same-accepted =
-      let n : length (y .body) + (length (x .body) + 0) ≡ length (x .body) + (length (y .body) + 0) = omega arith in
-      rw (entry-swapped, sections-swapped, two, n)
+  -- it is accepted with the same answer
+  k-swapped : Accepted m (swapOf t x y) (length mem)
+  k-swapped = exchange-accepted m t (swapOf t x y) [] [] x y form-swapped (s .sections) sections-swapped k
 
-  pub swap-answer : loadAnswer m (table (wordAt t 0) (y ∷ x ∷ [])) (length mem) ≡ loadAnswer m t (length mem)
-  unfolding swapped
-  swap-answer = accepted-answer m swapped (length mem) swapped-accepted ∙ same-accepted ∙ sym (accepted-answer m t (length mem) k)
+  same-answer : loadAnswer m (swapOf t x y) (length mem) ≡ loadAnswer m t (length mem)
+  same-answer =
+      exchange-answer m t (swapOf t x y) [] [] x y form-swapped (s .sections) sections-swapped (length mem)
+      (entry-table (entryOf t) (y ∷ x ∷ []) (header-lt t 0 bytes)) k
 
-  -- ---- and leaves the same memory exactly when the two sections agree
-
-  open-swapped : All (Opens m) (y ∷ x ∷ [])
-  open-swapped = all-swap (rw two at (k .opens))
-
-  memory-is : loadMemory m t mem ≡ storeAll m mem (x ∷ y ∷ [])
-  memory-is = accepted-memory m t mem k ∙ ap (storeAll m mem) two
-
-  memory-swapped : loadMemory m swapped mem ≡ storeAll m mem (y ∷ x ∷ [])
-  memory-swapped = accepted-memory m swapped mem swapped-accepted ∙ ap (storeAll m mem) sections-swapped
-
-  agree-same : Agree x y → loadMemory m swapped mem ≡ loadMemory m t mem
+  -- and leaves the same memory exactly when the two sections agree
+  agree-same : Agree x y → loadMemory m (swapOf t x y) mem ≡ loadMemory m t mem
   agree-same g =
-      memory-swapped
-      ∙ same-memory m (k .sound) mem (k .size) (y ∷ x ∷ []) (x ∷ y ∷ []) open-swapped (rw two at (k .opens)) (λ a. sym (last-swap x y a g))
-      ∙ sym memory-is
+      accepted-memory m (swapOf t x y) mem k-swapped
+      ∙ same-memory m (k .sound) mem (k .size) (reading (swapOf t x y) .sections) (reading t .sections) (k-swapped .opens) (k .opens)
+      (λ a. rw (sections-swapped, s .sections) (sym (last-swap x y a g)))
+      ∙ sym (accepted-memory m t mem k)
 
-  -- the byte of the later of two sections at an address that it covers
-  later-byte : (u v : Sect) → All (Opens m) (u ∷ v ∷ []) → (a : ℕ) → covers v a ≡ true → getD (storeAll m mem (u ∷ v ∷ [])) (placeOf m a) 0 ≡ byteFor v a
-  later-byte u v o a c =
-      storeAll-at m (k .sound) mem (k .size) o a (open-second m o a c)
-      ∙ ap (λ (b : Option ℕ). Option·getD b (getD mem (placeOf m a) 0)) (last-second u v a c)
-
-  same-agree : loadMemory m swapped mem ≡ loadMemory m t mem → Agree x y
+  same-agree : loadMemory m (swapOf t x y) mem ≡ loadMemory m t mem → Agree x y
   same-agree e a c d =
-      sym (later-byte y x open-swapped a c)
-      ∙ ap (λ (r : List ℕ). getD r (placeOf m a) 0) (sym memory-swapped ∙ e ∙ memory-is)
-      ∙ later-byte x y (rw two at (k .opens)) a d
+      sym (later-byte (swapOf t x y) m mem y x k-swapped sections-swapped a c)
+      ∙ ap (λ (r : List ℕ). getD r (placeOf m a) 0) e
+      ∙ later-byte t m mem x y k (s .sections) a d
 
-  pub swap-memory : (loadMemory m (table (wordAt t 0) (y ∷ x ∷ [])) mem ≡ loadMemory m t mem) ↔ (Agree x y)
-  unfolding swapped
-  swap-memory = (same-agree, agree-same)
+  pub swapped : Swapped x y (swapAnswers m t (swapOf t x y) mem mem) (loadMemory m t mem) (loadMemory m (swapOf t x y) mem)
+  swapped = record { accepted = accepted-iff m (swapOf t x y) (length mem) .1 k-swapped; answer = same-answer; memory = (same-agree, agree-same) }

@@ -15,7 +15,7 @@ use Rattle.boot_strap.specs.declared.Manner.the-variants.{Strict, Lenient}
 use Rattle.boot_strap.specs.declared.Strap.the-variants.{Emif16, Spi}
 use Rattle.boot_strap.specs.declared.StrapAnswer.{StrapAnswer}
 use Rattle.boot_strap.specs.declared.StrapAnswer.the-variants.{Decoded, Refused}
-use Rattle.boot_strap.specs.Strap.{decodeAs}
+use Rattle.boot_strap.specs.Strap.{decodeAs, decodeShort}
 
 -- a card is a call, with the whole answer and all that the lent buffer holds afterwards
 pub data Card : Type 0 where
@@ -23,6 +23,7 @@ pub data Card : Type 0 where
   Join : (first second output : List ℕ) → Joined → List ℕ → Card
   Configure : (table addresses values : List ℕ) → Configured → List ℕ → Card
   Decode : Manner → ℕ → StrapAnswer → Card
+  DecodeShort : ℕ → StrapAnswer → Card
 
 -- what a card claims
 abbrev pub Holds : Card → Type 0
@@ -30,6 +31,7 @@ Holds (Load map table memory answer after) = (loadAnswer map table (length memor
 Holds (Join first second output answer after) = (joinAnswer first second (length output) ≡ answer) × (joinOutput first second output ≡ after)
 Holds (Configure table addresses values answer after) = (configAnswer table addresses values ≡ answer) × (configValues table addresses values ≡ after)
 Holds (Decode manner value answer) = decodeAs manner value ≡ answer
+Holds (DecodeShort value answer) = decodeShort value ≡ answer
 
 -- every card of a list holds
 abbrev pub AllHold : List Card → Type 0
@@ -46,7 +48,7 @@ abbrev pub refuse : ℕ → ℕ → ℕ → Answer
 refuse number place address = record { number = number; place = place; address = address; entry = 0; entry_open = false; sections = 0; bytes = 0 }
 
 abbrev pub success : ℕ → ℕ → Joined
-success n sections = record { number = 0; place = 0; table = 0; length = n; sections = sections }
+success n sections = record { number = 0; place = 0; which = 0; length = n; sections = sections }
 
 abbrev pub configured : ℕ → ℕ → Configured
 configured entries bits = record { number = 0; place = 0; entries = entries; bits = bits }
@@ -75,11 +77,13 @@ output = replicate 36 0xEE
 -- P joined with Q, and Q with P
 abbrev pub joinPQ : List ℕ
 joinPQ =
-    0x00 ∷ 0x80 ∷ 0x00 ∷ 0x04 ∷ 0x00 ∷ 0x00 ∷ 0x00 ∷ 0x03 ∷ 0x00 ∷ 0x80 ∷ 0x00 ∷ 0x02 ∷ 0xA1 ∷ 0xA2 ∷ 0xA3 ∷ 0x00 ∷ 0x00 ∷ 0x00 ∷ 0x00 ∷ 0x01 ∷ 0x00 ∷ 0x80 ∷ 0x00 ∷ 0x04 ∷ 0xB7 ∷ 0x00 ∷ 0x00 ∷ 0x00 ∷ 0x00 ∷ 0x00 ∷ 0x00 ∷ 0x00 ∷ []
+    0x00 ∷ 0x80 ∷ 0x00 ∷ 0x04 ∷ 0x00 ∷ 0x00 ∷ 0x00 ∷ 0x03 ∷ 0x00 ∷ 0x80 ∷ 0x00 ∷ 0x02 ∷ 0xA1 ∷ 0xA2 ∷ 0xA3 ∷ 0x00 ∷
+    0x00 ∷ 0x00 ∷ 0x00 ∷ 0x01 ∷ 0x00 ∷ 0x80 ∷ 0x00 ∷ 0x04 ∷ 0xB7 ∷ 0x00 ∷ 0x00 ∷ 0x00 ∷ 0x00 ∷ 0x00 ∷ 0x00 ∷ 0x00 ∷ []
 
 abbrev pub joinQP : List ℕ
 joinQP =
-    0x00 ∷ 0x80 ∷ 0x00 ∷ 0x00 ∷ 0x00 ∷ 0x00 ∷ 0x00 ∷ 0x01 ∷ 0x00 ∷ 0x80 ∷ 0x00 ∷ 0x04 ∷ 0xB7 ∷ 0x00 ∷ 0x00 ∷ 0x00 ∷ 0x00 ∷ 0x00 ∷ 0x00 ∷ 0x03 ∷ 0x00 ∷ 0x80 ∷ 0x00 ∷ 0x02 ∷ 0xA1 ∷ 0xA2 ∷ 0xA3 ∷ 0x00 ∷ 0x00 ∷ 0x00 ∷ 0x00 ∷ 0x00 ∷ []
+    0x00 ∷ 0x80 ∷ 0x00 ∷ 0x00 ∷ 0x00 ∷ 0x00 ∷ 0x00 ∷ 0x01 ∷ 0x00 ∷ 0x80 ∷ 0x00 ∷ 0x04 ∷ 0xB7 ∷ 0x00 ∷ 0x00 ∷ 0x00 ∷
+    0x00 ∷ 0x00 ∷ 0x00 ∷ 0x03 ∷ 0x00 ∷ 0x80 ∷ 0x00 ∷ 0x02 ∷ 0xA1 ∷ 0xA2 ∷ 0xA3 ∷ 0x00 ∷ 0x00 ∷ 0x00 ∷ 0x00 ∷ 0x00 ∷ []
 
 -- an entry word and a zero word, with an entry that is open and with one that is not
 abbrev pub noSections : List ℕ
@@ -97,7 +101,8 @@ shortP =
 
 abbrev pub longP : List ℕ
 longP =
-    0x00 ∷ 0x80 ∷ 0x00 ∷ 0x00 ∷ 0x00 ∷ 0x00 ∷ 0x00 ∷ 0x03 ∷ 0x00 ∷ 0x80 ∷ 0x00 ∷ 0x02 ∷ 0xA1 ∷ 0xA2 ∷ 0xA3 ∷ 0x00 ∷ 0x00 ∷ 0x00 ∷ 0x00 ∷ 0x00 ∷ 0x00 ∷ []
+    0x00 ∷ 0x80 ∷ 0x00 ∷ 0x00 ∷ 0x00 ∷ 0x00 ∷ 0x00 ∷ 0x03 ∷ 0x00 ∷ 0x80 ∷ 0x00 ∷ 0x02 ∷ 0xA1 ∷ 0xA2 ∷ 0xA3 ∷ 0x00 ∷
+    0x00 ∷ 0x00 ∷ 0x00 ∷ 0x00 ∷ 0x00 ∷ []
 
 abbrev pub paddedP : List ℕ
 paddedP =
@@ -123,11 +128,13 @@ pastTopTable =
 -- one entry that sets 0x30 and clears 0x03, and one that sets and clears bit 0
 abbrev pub setAndClear : List ℕ
 setAndClear =
-    0x02 ∷ 0x62 ∷ 0x00 ∷ 0x00 ∷ 0x00 ∷ 0x00 ∷ 0x00 ∷ 0x30 ∷ 0x00 ∷ 0x00 ∷ 0x00 ∷ 0x03 ∷ 0x00 ∷ 0x00 ∷ 0x00 ∷ 0x00 ∷ 0x00 ∷ 0x00 ∷ 0x00 ∷ 0x00 ∷ 0x00 ∷ 0x00 ∷ 0x00 ∷ 0x00 ∷ []
+    0x02 ∷ 0x62 ∷ 0x00 ∷ 0x00 ∷ 0x00 ∷ 0x00 ∷ 0x00 ∷ 0x30 ∷ 0x00 ∷ 0x00 ∷ 0x00 ∷ 0x03 ∷
+    0x00 ∷ 0x00 ∷ 0x00 ∷ 0x00 ∷ 0x00 ∷ 0x00 ∷ 0x00 ∷ 0x00 ∷ 0x00 ∷ 0x00 ∷ 0x00 ∷ 0x00 ∷ []
 
 abbrev pub bothMasks : List ℕ
 bothMasks =
-    0x02 ∷ 0x62 ∷ 0x00 ∷ 0x00 ∷ 0x00 ∷ 0x00 ∷ 0x00 ∷ 0x01 ∷ 0x00 ∷ 0x00 ∷ 0x00 ∷ 0x01 ∷ 0x00 ∷ 0x00 ∷ 0x00 ∷ 0x00 ∷ 0x00 ∷ 0x00 ∷ 0x00 ∷ 0x00 ∷ 0x00 ∷ 0x00 ∷ 0x00 ∷ 0x00 ∷ []
+    0x02 ∷ 0x62 ∷ 0x00 ∷ 0x00 ∷ 0x00 ∷ 0x00 ∷ 0x00 ∷ 0x01 ∷ 0x00 ∷ 0x00 ∷ 0x00 ∷ 0x01 ∷
+    0x00 ∷ 0x00 ∷ 0x00 ∷ 0x00 ∷ 0x00 ∷ 0x00 ∷ 0x00 ∷ 0x00 ∷ 0x00 ∷ 0x00 ∷ 0x00 ∷ 0x00 ∷ []
 
 -- ---- the cards
 
@@ -165,16 +172,21 @@ cards =
     Configure setAndClear (0x02620000 ∷ []) (0x0000000F ∷ []) (configured 1 4) (0x0000003C ∷ []) ∷
     -- 10: the same register, set 1, clear 1
     Configure bothMasks (0x02620000 ∷ []) (0x0000000F ∷ []) (configured 1 0) (0x0000000F ∷ []) ∷
-    -- 11: strap 7878
+    -- 11: strap 7878, in each manner and where none is named
     Decode Strict 7878 (Decoded (Spi 3 true true 1 2 0)) ∷
     Decode Lenient 7878 (Decoded (Spi 3 true true 1 2 0)) ∷
+    DecodeShort 7878 (Decoded (Spi 3 true true 1 2 0)) ∷
     -- 12: straps 160, 416, 64 and 8192
     Decode Strict 160 (Decoded (Emif16 0 true 0)) ∷
     Decode Lenient 160 (Decoded (Emif16 0 true 0)) ∷
+    DecodeShort 160 (Decoded (Emif16 0 true 0)) ∷
+    Decode Strict 416 (Refused 19 0) ∷
     Decode Lenient 416 (Decoded (Emif16 0 true 0)) ∷
-    Decode Strict 416 (Refused 19) ∷
-    Decode Strict 64 (Refused 19) ∷
-    Decode Lenient 64 (Refused 19) ∷
-    Decode Strict 8192 (Refused 18) ∷
-    Decode Lenient 8192 (Refused 18) ∷
+    DecodeShort 416 (Decoded (Emif16 0 true 0)) ∷
+    Decode Strict 64 (Refused 19 0) ∷
+    Decode Lenient 64 (Refused 19 0) ∷
+    DecodeShort 64 (Refused 19 0) ∷
+    Decode Strict 8192 (Refused 18 0) ∷
+    Decode Lenient 8192 (Refused 18 0) ∷
+    DecodeShort 8192 (Refused 18 0) ∷
     []

@@ -1,38 +1,41 @@
--- Demand 3: joining means loading in turn. A, B and C are a, b and c; m is a map, mem memory; out and its like are outputs.
+-- Demand 3: joining means loading in turn. A, B and C are a, b and c, lists of bytes; m is a map, mem memory; out, ab, left, bc, right are outputs.
 use Prim.Native.Nat.{ℕ, _+_, _-_, _≤_}
 use mathlib.Core.Path.{_≡_}
 use mathlib.Core.Logic.{_↔_}
 use mathlib.Core.List.{List, [], _∷_, _++_}
 use mathlib.Core.Bool.{true}
 use lib.ListN.{length, take, drop}
-use Rattle.words.specs.Word.{Bytes, wordAt}
+use Rattle.words.specs.Word.{Bytes}
 use Rattle.region_map.specs.Map.{SoundMap, memorySize}
-use Rattle.boot_table.specs.Table.{Sect, table, reading}
-use Rattle.boot_table.specs.Form.{limit, WellFormed}
+use Rattle.boot_table.specs.Table.{Sect, tableOf, entryOf, reading}
+use Rattle.boot_table.specs.Form.{tableLimit, WellFormed}
 use Rattle.boot_table.specs.Meaning.{covers, byteFor}
+use Rattle.loader.specs.declared.Answer.{Answer}
 use Rattle.loader.specs.Load.{loadAnswer, loadMemory}
-use Rattle.joiner.specs.Join.{joinAnswer, joinOutput}
+use Rattle.joiner.specs.declared.Joined.{Joined}
+use Rattle.joiner.specs.Join.{joinOutput}
+use Rattle.laws.specs.declared.TurnAnswers.{TurnAnswers}
+use Rattle.laws.specs.declared.ThreeAnswers.{ThreeAnswers}
+use Rattle.laws.specs.declared.SwapAnswers.{SwapAnswers}
+use Rattle.laws.specs.Calls.{joinIn, turnAnswers, threeAnswers, swapOf, swapAnswers}
 
 -- ---- the demand's terms
 
--- a well-formed table of bytes
-pub record IsTable (t : List ℕ) : Type 0 where
-  pub bytes : Bytes t
-  pub form : WellFormed t
+-- a table is accepted when loading it gives an accepted answer
+abbrev pub IsAccepted : Answer → Type 0
+IsAccepted r = r .number ≡ 0
 
--- a table is accepted when loading it into memory gives an accepted answer
-abbrev pub Loads : List ℕ → List ℕ → List ℕ → Type 0
-Loads m t mem = loadAnswer m t (length mem) .number ≡ 0
+-- two sections carry equal bytes at every address that they share
+abbrev pub Agree : Sect → Sect → Type 0
+Agree x y = (a : ℕ) → covers x a ≡ true → covers y a ≡ true → byteFor x a ≡ byteFor y a
 
--- the join where it is loaded or joined again: the output's first bytes, as many as the join reported
-unfoldable pub joinIn : List ℕ → List ℕ → List ℕ → List ℕ
-joinIn a b out = take (joinAnswer a b (length out) .length) (joinOutput a b out)
+-- ---- side conditions
 
 -- well-formed tables A and B whose join fits the length limit, and an output with room
 pub record Joinable (a b out : List ℕ) : Type 0 where
-  pub first : IsTable a
-  pub second : IsTable b
-  pub fits : length a + length b - 8 ≤ limit
+  pub first : WellFormed a
+  pub second : WellFormed b
+  pub fits : length a + length b - 8 ≤ tableLimit
   pub room : length a + length b - 8 ≤ length out
 
 -- a sound map and memory of its size
@@ -40,56 +43,93 @@ pub record Fitting (m mem : List ℕ) : Type 0 where
   pub sound : SoundMap m
   pub size : length mem ≡ memorySize m
 
--- three well-formed tables whose full join fits, and an output with room for each of the four joins: A with B, that with C, B with C, A with that
-pub record Joinable3 (a b c ab ab-c bc a-bc : List ℕ) : Type 0 where
-  pub first : IsTable a
-  pub second : IsTable b
-  pub third : IsTable c
-  pub fits : length a + length b + length c - 16 ≤ limit
+-- three well-formed tables whose full join fits, and an output with room for each of the four joins
+pub record Joinable3 (a b c ab left bc right : List ℕ) : Type 0 where
+  pub first : WellFormed a
+  pub second : WellFormed b
+  pub third : WellFormed c
+  pub fits : length a + length b + length c - 16 ≤ tableLimit
   pub room-ab : length a + length b - 8 ≤ length ab
-  pub room-ab-c : length a + length b + length c - 16 ≤ length ab-c
+  pub room-left : length a + length b + length c - 16 ≤ length left
   pub room-bc : length b + length c - 8 ≤ length bc
-  pub room-a-bc : length a + length b + length c - 16 ≤ length a-bc
+  pub room-right : length a + length b + length c - 16 ≤ length right
 
--- two sections carry equal bytes at every address that they share
-abbrev pub Agree : Sect → Sect → Type 0
-Agree x y = (a : ℕ) → covers x a ≡ true → covers y a ≡ true → byteFor x a ≡ byteFor y a
+-- an accepted table of just two sections, x and y
+pub record TwoSections (t m mem : List ℕ) (x y : Sect) : Type 0 where
+  pub accepted : IsAccepted (loadAnswer m t (length mem))
+  pub sections : reading t .sections ≡ x ∷ y ∷ []
 
--- ---- the demand
+-- ---- results, of the answers r and of what the lent buffers hold after the calls (written with a prime)
 
-pub record Demand3 : Type 0 where
-  -- the join's bytes, length and count are document 01's; the call succeeds, and output bytes past the result are not touched
-  pub join-is : (a b out : List ℕ) → Joinable a b out
-      → (joinAnswer a b (length out)
-      ≡ record { number = 0; place = 0; table = 0; length = length a + length b - 8; sections = length (reading a .sections) + length (reading b .sections) })
-      × (joinIn a b out ≡ table (wordAt b 0) (reading a .sections ++ reading b .sections))
-      × (drop (length a + length b - 8) (joinOutput a b out) ≡ drop (length a + length b - 8) out)
-  -- the join is accepted exactly when A and B both are; loading B gets the memory that loading A left
-  pub join-accepted : (a b out m mem : List ℕ) → Joinable a b out → Fitting m mem
-      → (Loads m (joinIn a b out) mem) ↔ ((Loads m a mem) × (Loads m b (loadMemory m a mem)))
+-- A was joined with B
+pub record IsJoin (a b out : List ℕ) (r : Joined) (out′ : List ℕ) : Type 0 where
+  -- the call succeeds, and the join's length and count are document 01's
+  pub answer : r
+      ≡ record {
+        number = 0;
+        place = 0;
+        which = 0;
+        length = length a + length b - 8;
+        sections = length (reading a .sections) + length (reading b .sections);
+      }
+  -- its bytes are document 01's: B's entry, A's sections, B's sections, zero word
+  pub bytes : take (r .length) out′ ≡ tableOf (entryOf b) (reading a .sections ++ reading b .sections)
+  -- output bytes past the result are not touched
+  pub past : drop (r .length) out′ ≡ drop (r .length) out
+
+-- A was joined with B and the join loaded, and A and then B were loaded into another memory that held the same bytes
+pub record InTurn (a b out : List ℕ) (r : TurnAnswers) (out′ whole′ turn′ : List ℕ) : Type 0 where
+  -- the join's bytes, length and count are document 01's
+  pub joined : IsJoin a b out (r .joined) out′
+  -- the join is accepted exactly when A and B both are
+  pub accepted : (IsAccepted (r .whole)) ↔ ((IsAccepted (r .first)) × (IsAccepted (r .second)))
   -- once accepted it leaves, at every byte, what loading A and then B into the same memory leaves
-  pub join-memory : (a b out m mem : List ℕ) → Joinable a b out → Fitting m mem → Loads m (joinIn a b out) mem
-      → loadMemory m (joinIn a b out) mem ≡ loadMemory m b (loadMemory m a mem)
-  -- with B's entry, and B's yes or no, and the summed counts
-  pub join-answer : (a b out m mem : List ℕ) → Joinable a b out → Fitting m mem → Loads m (joinIn a b out) mem
-      → loadAnswer m (joinIn a b out) (length mem)
+  pub memory : IsAccepted (r .whole) → whole′ ≡ turn′
+  -- with B's entry, B's yes or no, and the summed counts
+  pub answer : IsAccepted (r .whole)
+      → r .whole
       ≡ record {
         number = 0;
         place = 0;
         address = 0;
-        entry = loadAnswer m b (length (loadMemory m a mem)) .entry;
-        entry_open = loadAnswer m b (length (loadMemory m a mem)) .«entry_open»;
-        sections = loadAnswer m a (length mem) .sections + loadAnswer m b (length (loadMemory m a mem)) .sections;
-        bytes = loadAnswer m a (length mem) .bytes + loadAnswer m b (length (loadMemory m a mem)) .bytes;
+        entry = r .second .entry;
+        entry_open = r .second .«entry_open»;
+        sections = r .first .sections + r .second .sections;
+        bytes = r .first .bytes + r .second .bytes;
       }
-  -- joining A with B and then the result with C gives the same bytes, length and section count as joining A with the join of B and C
-  pub join-three : (a b c ab ab-c bc a-bc : List ℕ) → Joinable3 a b c ab ab-c bc a-bc
-      → (joinIn (joinIn a b ab) c ab-c ≡ joinIn a (joinIn b c bc) a-bc)
-      × (joinAnswer (joinIn a b ab) c (length ab-c) ≡ joinAnswer a (joinIn b c bc) (length a-bc))
-      × (joinAnswer (joinIn a b ab) c (length ab-c) .number ≡ 0)
-  -- of an accepted table of just two sections: swapping them gives an accepted table with the same answer
-  pub swap-answer : (t m mem : List ℕ) (x y : Sect) → Bytes t → Loads m t mem → reading t .sections ≡ x ∷ y ∷ []
-      → loadAnswer m (table (wordAt t 0) (y ∷ x ∷ [])) (length mem) ≡ loadAnswer m t (length mem)
+
+-- A was joined with B and the result with C, and A with the join of B and C
+pub record Associative (a b c ab left bc right : List ℕ) (r : ThreeAnswers) (ab′ left′ bc′ right′ : List ℕ) : Type 0 where
+  -- each of the four joins is document 01's; one that is joined again is its output's first bytes, as many as it reported
+  pub ab-joined : IsJoin a b ab (r .ab) ab′
+  pub left-joined : IsJoin (take (r .ab .length) ab′) c left (r .left) left′
+  pub bc-joined : IsJoin b c bc (r .bc) bc′
+  pub right-joined : IsJoin a (take (r .bc .length) bc′) right (r .right) right′
+  -- both ways give the same bytes
+  pub bytes : take (r .left .length) left′ ≡ take (r .right .length) right′
+  -- and the same length and section count
+  pub answer : r .left ≡ r .right
+
+-- a table of the sections x and y, and the one with the two swapped, were loaded from the same bytes of memory
+pub record Swapped (x y : Sect) (r : SwapAnswers) (original′ swapped′ : List ℕ) : Type 0 where
+  -- swapping gives an accepted table
+  pub accepted : IsAccepted (r .swapped)
+  -- with the same answer
+  pub answer : r .swapped ≡ r .original
   -- and it leaves the same memory exactly when the two carry equal bytes at every address they share
-  pub swap-memory : (t m mem : List ℕ) (x y : Sect) → Bytes t → Loads m t mem → reading t .sections ≡ x ∷ y ∷ []
-      → (loadMemory m (table (wordAt t 0) (y ∷ x ∷ [])) mem ≡ loadMemory m t mem) ↔ (Agree x y)
+  pub memory : (swapped′ ≡ original′) ↔ (Agree x y)
+
+-- ---- the demand
+
+pub record Demand3 : Type 0 where
+  -- any well-formed tables A and B whose join fits, any output with room, any sound map, and any memory of its size, whatever bytes that holds
+  pub two-tables : (a b out m mem : List ℕ) → Bytes a → Bytes b → Joinable a b out → Fitting m mem
+      → InTurn a b out (turnAnswers m a b out mem mem)
+      (joinOutput a b out) (loadMemory m (joinIn a b out) mem) (loadMemory m b (loadMemory m a mem))
+  -- any three well-formed tables whose full join fits, given output room
+  pub three-tables : (a b c ab left bc right : List ℕ) → Bytes a → Bytes b → Bytes c → Joinable3 a b c ab left bc right
+      → Associative a b c ab left bc right (threeAnswers a b c ab left bc right)
+      (joinOutput a b ab) (joinOutput (joinIn a b ab) c left) (joinOutput b c bc) (joinOutput a (joinIn b c bc) right)
+  -- any accepted table of just two sections
+  pub two-swapped : (t m mem : List ℕ) (x y : Sect) → Bytes t → TwoSections t m mem x y
+      → Swapped x y (swapAnswers m t (swapOf t x y) mem mem) (loadMemory m t mem) (loadMemory m (swapOf t x y) mem)

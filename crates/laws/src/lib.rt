@@ -1,53 +1,69 @@
 // Functions that make the calls of demand 3. What they ensure follows from the contracts of `join` and `load`, and from demand 3.
 ghost use mathlib.Core.Path.{_≡_};
 ghost use Rattle.boot_table.specs.Table.{Sect};
-ghost use Rattle.laws.specs.Calls.{TurnSides, TurnEnds, ThreeSides, ThreeEnds, SwapSides, SwapEnds};
+ghost use Rattle.loader.specs.Load.{loadMemory};
+ghost use Rattle.joiner.specs.Join.{joinOutput};
+ghost use Rattle.laws.specs.Calls.{joinIn, turnAnswers, threeAnswers, swapOf, swapAnswers};
+ghost use Rattle.laws.specs.Demand3.{Joinable, Fitting, Joinable3, TwoSections, InTurn, Associative, Swapped};
 use joiner::Joined;
 use joiner::join;
 use loader::Answer;
 use loader::load;
 
 // The answers of a join, of loading it, and of loading its two tables in turn.
-pub struct InTurn {
+pub struct TurnAnswers {
     pub joined: Joined,
     pub whole: Answer,
     pub first: Answer,
     pub second: Answer,
 }
 
-// The last answers of three tables that were joined both ways.
-pub struct Threefold {
+// The answers of the four joins that join three tables both ways: A with B, that with C; B with C, A with that.
+pub struct ThreeAnswers {
+    pub ab: Joined,
     pub left: Joined,
+    pub bc: Joined,
     pub right: Joined,
 }
 
-// The answers of two loads.
-pub struct Pair {
-    pub first: Answer,
-    pub second: Answer,
+// The answers of loading a table, and the table with its two sections swapped.
+pub struct SwapAnswers {
+    pub original: Answer,
+    pub swapped: Answer,
 }
 
-// Joins two tables and loads the join into one memory, and loads the two in turn into another that began equal.
+// Joins two tables and loads the join into one memory, and loads the two in turn into another.
 pub fn join_and_load(
     map: &[u8],
     first: &[u8],
     second: &[u8],
     output: &mut [u8],
-    one: &mut [u8],
-    two: &mut [u8],
-) -> InTurn
-    ensures { λ r. ⌜ (TurnSides (now (map .entry)) (now (first .entry)) (now (second .entry)) (now (output .entry)) (now (one .entry)) (now (two .entry)) → TurnEnds r (now (one .exit)) (now (two .exit))) ⌝ }
+    join_memory: &mut [u8],
+    turn_memory: &mut [u8],
+) -> TurnAnswers
+    ensures { λ r. ⌜ r ≡ turnAnswers (now (map .entry)) (now (first .entry)) (now (second .entry)) (now (output .entry))
+        (now («join_memory» .entry)) (now («turn_memory» .entry)) ⌝ }
+    ensures { λ _. ⌜ now (output .exit) ≡ joinOutput (now (first .entry)) (now (second .entry)) (now (output .entry)) ⌝ }
+    ensures { λ _. ⌜ now («join_memory» .exit)
+        ≡ loadMemory (now (map .entry)) (joinIn (now (first .entry)) (now (second .entry)) (now (output .entry))) (now («join_memory» .entry)) ⌝ }
+    ensures { λ _. ⌜ now («turn_memory» .exit)
+        ≡ loadMemory (now (map .entry)) (now (second .entry)) (loadMemory (now (map .entry)) (now (first .entry)) (now («turn_memory» .entry))) ⌝ }
+    ensures { λ r. ⌜ (Joinable (now (first .entry)) (now (second .entry)) (now (output .entry))
+        → Fitting (now (map .entry)) (now («join_memory» .entry))
+        → now («join_memory» .entry) ≡ now («turn_memory» .entry)
+        → InTurn (now (first .entry)) (now (second .entry)) (now (output .entry)) r
+        (now (output .exit)) (now («join_memory» .exit)) (now («turn_memory» .exit))) ⌝ }
 {
     let joined = join(first, second, output);
     let n = joined.length;
-    let whole = load(map, &output[0..n], one);
-    let a = load(map, first, two);
-    let b = load(map, second, two);
-    InTurn {
+    let whole = load(map, &output[..n], join_memory);
+    let loaded_first = load(map, first, turn_memory);
+    let loaded_second = load(map, second, turn_memory);
+    TurnAnswers {
         joined: joined,
         whole: whole,
-        first: a,
-        second: b,
+        first: loaded_first,
+        second: loaded_second,
     }
 }
 
@@ -60,32 +76,56 @@ pub fn join_three(
     left: &mut [u8],
     bc: &mut [u8],
     right: &mut [u8],
-) -> Threefold
-    ensures { λ r. ⌜ (ThreeSides (now (first .entry)) (now (second .entry)) (now (third .entry)) (now (ab .entry)) (now (left .entry)) (now (bc .entry)) (now (right .entry)) → ThreeEnds r (now (left .exit)) (now (right .exit))) ⌝ }
+) -> ThreeAnswers
+    ensures { λ r. ⌜ r ≡ threeAnswers (now (first .entry)) (now (second .entry)) (now (third .entry))
+        (now (ab .entry)) (now (left .entry)) (now (bc .entry)) (now (right .entry)) ⌝ }
+    ensures { λ _. ⌜ now (ab .exit) ≡ joinOutput (now (first .entry)) (now (second .entry)) (now (ab .entry)) ⌝ }
+    ensures { λ _. ⌜ now (left .exit)
+        ≡ joinOutput (joinIn (now (first .entry)) (now (second .entry)) (now (ab .entry))) (now (third .entry)) (now (left .entry)) ⌝ }
+    ensures { λ _. ⌜ now (bc .exit) ≡ joinOutput (now (second .entry)) (now (third .entry)) (now (bc .entry)) ⌝ }
+    ensures { λ _. ⌜ now (right .exit)
+        ≡ joinOutput (now (first .entry)) (joinIn (now (second .entry)) (now (third .entry)) (now (bc .entry))) (now (right .entry)) ⌝ }
+    ensures { λ r. ⌜ (Joinable3 (now (first .entry)) (now (second .entry)) (now (third .entry))
+        (now (ab .entry)) (now (left .entry)) (now (bc .entry)) (now (right .entry))
+        → Associative (now (first .entry)) (now (second .entry)) (now (third .entry))
+        (now (ab .entry)) (now (left .entry)) (now (bc .entry)) (now (right .entry)) r
+        (now (ab .exit)) (now (left .exit)) (now (bc .exit)) (now (right .exit))) ⌝ }
 {
-    let x = join(first, second, ab);
-    let n = x.length;
-    let l = join(&ab[0..n], third, left);
-    let y = join(second, third, bc);
-    let k = y.length;
-    let r = join(first, &bc[0..k], right);
-    Threefold { left: l, right: r }
+    let joined_ab = join(first, second, ab);
+    let n = joined_ab.length;
+    let joined_left = join(&ab[..n], third, left);
+    let joined_bc = join(second, third, bc);
+    let k = joined_bc.length;
+    let joined_right = join(first, &bc[..k], right);
+    ThreeAnswers {
+        ab: joined_ab,
+        left: joined_left,
+        bc: joined_bc,
+        right: joined_right,
+    }
 }
 
-// Loads a table of two sections, and the table of the two in the other order, into memories that began equal.
+// Loads a table into one memory, and into another the table with its two sections swapped.
 pub fn load_swapped(
     map: &[u8],
-    table: &[u8],
+    original: &[u8],
     swapped: &[u8],
-    one: &mut [u8],
-    two: &mut [u8],
-) -> Pair
-    ensures { λ r. ⌜ ((x y : Sect) → SwapSides (now (table .entry)) (now (swapped .entry)) x y (now (one .entry)) (now (two .entry)) → r .first .number ≡ 0 → SwapEnds r x y (now (one .exit)) (now (two .exit))) ⌝ }
+    original_memory: &mut [u8],
+    swapped_memory: &mut [u8],
+) -> SwapAnswers
+    ensures { λ r. ⌜ r ≡ swapAnswers (now (map .entry)) (now (original .entry)) (now (swapped .entry))
+        (now («original_memory» .entry)) (now («swapped_memory» .entry)) ⌝ }
+    ensures { λ _. ⌜ now («original_memory» .exit) ≡ loadMemory (now (map .entry)) (now (original .entry)) (now («original_memory» .entry)) ⌝ }
+    ensures { λ _. ⌜ now («swapped_memory» .exit) ≡ loadMemory (now (map .entry)) (now (swapped .entry)) (now («swapped_memory» .entry)) ⌝ }
+    ensures { λ r. ⌜ ((x y : Sect) → TwoSections (now (original .entry)) (now (map .entry)) (now («original_memory» .entry)) x y
+        → now (swapped .entry) ≡ swapOf (now (original .entry)) x y
+        → now («original_memory» .entry) ≡ now («swapped_memory» .entry)
+        → Swapped x y r (now («original_memory» .exit)) (now («swapped_memory» .exit))) ⌝ }
 {
-    let a = load(map, table, one);
-    let b = load(map, swapped, two);
-    Pair {
-        first: a,
-        second: b,
+    let loaded_original = load(map, original, original_memory);
+    let loaded_swapped = load(map, swapped, swapped_memory);
+    SwapAnswers {
+        original: loaded_original,
+        swapped: loaded_swapped,
     }
 }

@@ -10,12 +10,11 @@ use borrow.Author.Tests.{eq-eqb, ne-eqb, lt-ltb, le-ltb, ltb-false}
 use lib.ListN.{length, take, drop, length-append}
 use lib.Seq.{take-at, drop-at}
 use lib.Dec.{ltb}
-use Rattle.words.specs.Word.{wordAt}
 use Rattle.words.proofs.ChoiceLaws.{if-cases}
 use Rattle.words.proofs.RunLaws.{over-front}
 use Rattle.boot_table.specs.declared.Form.{Form}
 use Rattle.boot_table.specs.declared.Step.the-variants.{Section, End}
-use Rattle.boot_table.specs.Table.{Sect, reading, readOn, stepAt, sectionAt, before}
+use Rattle.boot_table.specs.Table.{entryOf, Sect, reading, readOn, stepAt, sectionAt, before}
 use Rattle.boot_table.specs.Form.{total, formOf, WellFormed}
 use Rattle.boot_table.proofs.StepLaws.{section-of, length-body}
 use Rattle.boot_table.proofs.ReadLaws.{read-section, read-end}
@@ -99,7 +98,7 @@ module _ (t : List ℕ) where
       pub listed-well : f .number ≡ 0 → WellFormed t
       listed-well z = form-well t (ap (λ (x : Form). x .number) (sym e) ∙ z)
 
-      pub text-listed : f .number ≡ 0 → text t ≡ entryLine (wordAt t 0) ++ sectionLines (reading t .sections) ++ endLine (f .sections) (f .bytes)
+      pub text-listed : f .number ≡ 0 → text t ≡ entryLine (entryOf t) ++ sectionLines (reading t .sections) ++ endLine (f .sections) (f .bytes)
       unfolding text
       text-listed z =
           let n : formOf t .number ≡ 0 = ap (λ (x : Form). x .number) (sym e) ∙ z in
@@ -124,7 +123,7 @@ module _ (t : List ℕ) where
           )
 
       listed-few : f .number ≡ 0 → length (text t) ≤ 32 + 2 * length t
-      listed-few z = rw (text-listed z) (simp length-append (omega (arith, length-entry (wordAt t 0), length-end (f .sections) (f .bytes), listed-room z)))
+      listed-few z = rw (text-listed z) (simp length-append (omega (arith, length-entry (entryOf t), length-end (f .sections) (f .bytes), listed-room z)))
 
 -- the text is no longer than its bound
 pub text-bound : (t : List ℕ) → length (text t) ≤ textBound t
@@ -140,7 +139,7 @@ pub text-some : (t : List ℕ) → 1 ≤ length (text t)
 text-some t =
     by-cases (decLe (length t) listLimit)
     (λ h. by-cases (ℕ-discrete (formOf t .number) 0)
-    (λ z. rw (text-listed t h _ refl z) (simp length-append (omega (arith, length-entry (wordAt t 0)))))
+    (λ z. rw (text-listed t h _ refl z) (simp length-append (omega (arith, length-entry (entryOf t)))))
     (λ n. rw (text-refused t h _ refl n) (omega (arith, length-refused (formOf t .number) (formOf t .place)))))
     (λ h. rw (text-long t (omega arith)) (omega arith))
 

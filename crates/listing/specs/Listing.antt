@@ -5,9 +5,8 @@ use mathlib.Core.Bool.{not}
 use lib.ListN.{length}
 use lib.Dec.{ltb, eqb}
 use Rattle.words.specs.Choice.{if}
-use Rattle.words.specs.Word.{wordAt}
 use Rattle.words.specs.Run.{over}
-use Rattle.boot_table.specs.Table.{Sect, reading}
+use Rattle.boot_table.specs.Table.{entryOf, Sect, reading}
 use Rattle.boot_table.specs.Form.{total, formOf}
 use Rattle.listing.specs.Text.{hexText, decimalText}
 
@@ -27,7 +26,8 @@ endLine sections bytes = (101 ∷ 110 ∷ 100 ∷ 32 ∷ []) ++ decimalText sect
 
 -- `refused`, the number, `at`, the place
 unfoldable pub refusedLine : ℕ → ℕ → List ℕ
-refusedLine number place = (114 ∷ 101 ∷ 102 ∷ 117 ∷ 115 ∷ 101 ∷ 100 ∷ 32 ∷ []) ++ decimalText number ++ (32 ∷ 97 ∷ 116 ∷ 32 ∷ []) ++ decimalText place ++ (10 ∷ [])
+refusedLine number place =
+    (114 ∷ 101 ∷ 102 ∷ 117 ∷ 115 ∷ 101 ∷ 100 ∷ 32 ∷ []) ++ decimalText number ++ (32 ∷ 97 ∷ 116 ∷ 32 ∷ []) ++ decimalText place ++ (10 ∷ [])
 
 -- `too long`
 abbrev pub tooLong : List ℕ
@@ -49,7 +49,7 @@ unfoldable pub text : List ℕ → List ℕ
 text t =
     if (ltb listLimit (length t)) tooLong
     (if (not (eqb (formOf t .number) 0)) (refusedLine (formOf t .number) (formOf t .place))
-    (entryLine (wordAt t 0) ++ sectionLines (reading t .sections) ++ endLine (length (reading t .sections)) (total (reading t .sections))))
+    (entryLine (entryOf t) ++ sectionLines (reading t .sections) ++ endLine (length (reading t .sections)) (total (reading t .sections))))
 
 -- how long a buffer has to be: enough for the text of any table of that length
 unfoldable pub textBound : List ℕ → ℕ

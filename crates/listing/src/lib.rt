@@ -1,20 +1,19 @@
 // The text of a boot table, written into a lent buffer.
 ghost use mathlib.Core.Path.{_≡_};
-ghost use mathlib.Core.List.{List, [], _∷_};
-ghost use Prim.Native.Nat.{_+_, _*_, _≤_, _<_, _^_};
+ghost use Prim.Native.Nat.{_+_, _*_, _≤_, _<_};
 ghost use lib.ListN.{length};
 ghost use Rattle.words.specs.Run.{over};
 ghost use Rattle.boot_table.specs.Table.{reading};
-ghost use Rattle.boot_table.specs.Form.{total, WellFormed};
+ghost use Rattle.boot_table.specs.Form.{WellFormed};
 ghost use Rattle.listing.specs.Text.{digitOf, hexText, decimalText};
-ghost use Rattle.listing.specs.Listing.{entryLine, sectionLine, endLine, refusedLine, sectionLines, text, listLength, listOutput};
+ghost use Rattle.listing.specs.Listing.{entryLine, sectionLine, endLine, refusedLine, sectionLines, listLength, listOutput};
 use boot_table::Step;
+use boot_table::entry_of;
 use boot_table::form_of;
 use boot_table::step_at;
 use words::copy;
-use words::word_at;
 
-const LIMIT: usize = 65_536;
+const LIST_LIMIT: usize = 65_536;
 
 // ---- text
 
@@ -149,7 +148,7 @@ pub fn list(table: &[u8], buffer: &mut [u8]) -> usize
     ensures { λ r. ⌜ r ≡ listLength (now (table .entry)) (length (now (buffer .entry))) ⌝ }
     ensures { λ _. ⌜ now (buffer .exit) ≡ listOutput (now (table .entry)) (now (buffer .entry)) ⌝ }
 {
-    if LIMIT < table.len() {
+    if LIST_LIMIT < table.len() {
         if buffer.len() < 9 {
             return 0;
         }
@@ -162,7 +161,7 @@ pub fn list(table: &[u8], buffer: &mut [u8]) -> usize
     if form.number != 0 {
         return put_refused(buffer, 0, form.number as usize, form.place);
     }
-    let a = put_entry(buffer, 0, word_at(table, 0));
+    let a = put_entry(buffer, 0, entry_of(table));
     let b = put_sections(table, buffer, a);
     put_end(buffer, b, form.sections, form.bytes)
 }

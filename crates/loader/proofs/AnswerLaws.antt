@@ -7,19 +7,18 @@ use Prim.Native.Nat.{ℕ}
 use native.Mathlib.Decide.{ℕ-discrete}
 use borrow.Author.Tests.{eq-eqb, ne-eqb}
 use lib.ListN.{length}
-use Rattle.words.specs.Word.{wordAt}
 use Rattle.words.specs.Refusal.{MEMORY-LENGTH}
 use Rattle.region_map.specs.Map.{mapAnswer, memorySize, isOpen}
 use Rattle.region_map.specs.declared.MapAnswer.{MapAnswer}
 use Rattle.region_map.proofs.FaultLaws.{answer-sound, sound-answer}
-use Rattle.boot_table.specs.Table.{reading}
+use Rattle.boot_table.specs.Table.{entryOf, reading}
 use Rattle.boot_table.specs.declared.Form.{Form}
-use Rattle.boot_table.specs.Form.{formOf, WellFormed}
+use Rattle.boot_table.specs.Form.{total, formed, formOf, WellFormed}
 use Rattle.boot_table.proofs.FormLaws.{form-well, well-form}
 use Rattle.boot_table.specs.Valid.{All}
 use Rattle.loader.specs.declared.Answer.{Answer}
 use Rattle.loader.specs.Store.{storeAll}
-use Rattle.loader.specs.Load.{refused, accepted, mapRule, tableAnswer, judgeAnswer, loadAnswer, loadMemory, Opens}
+use Rattle.loader.specs.Load.{refused, accepted, mapRule, formFirst, tableAnswer, judgeAnswer, loadAnswer, loadMemory, Opens}
 use Rattle.loader.proofs.RuleLaws.{opens-rule, rule-opens}
 
 -- ---- each answer, by the tests that lead to it: j is the map's, f the table's form
@@ -34,12 +33,17 @@ module _ (m t : List ℕ) where
   map-judged j e z = rw (← e) (simp (eq-eqb _ _ z))
 
   pub form-refused : (f : Form) → f ≡ formOf t → (f .number ≡ 0 → ⊥) → refused (f .number) (f .place) ≡ tableAnswer m t
-  unfolding tableAnswer
+  unfolding tableAnswer formFirst
   form-refused f e n = rw (← e) (simp (ne-eqb _ _ n))
 
   pub form-judged : (f : Form) → f ≡ formOf t → f .number ≡ 0 → mapRule m (accepted m t) 4 (reading t .sections) ≡ tableAnswer m t
-  unfolding tableAnswer
+  unfolding tableAnswer formFirst
   form-judged f e z = rw (← e) (simp (eq-eqb _ _ z))
+
+  -- the map rule's answer, where the form goes first
+  pub form-then : (later : Answer) → later ≡ mapRule m (accepted m t) 4 (reading t .sections) → formFirst t later ≡ tableAnswer m t
+  unfolding tableAnswer
+  form-then later e = rw e
 
   module _ (room : ℕ) (j : MapAnswer) (e : j ≡ mapAnswer m) where
     pub load-refused : (j .number ≡ 0 → ⊥) → refused (j .number) (j .place) ≡ loadAnswer m t room
@@ -53,6 +57,17 @@ module _ (m t : List ℕ) where
     pub load-judged : j .number ≡ 0 → room ≡ memorySize m → tableAnswer m t ≡ loadAnswer m t room
     unfolding loadAnswer
     load-judged z s = rw (← e) (simp (eq-eqb _ _ z, eq-eqb _ _ s))
+
+-- ---- the form goes first, by its number
+
+module _ (t : List ℕ) (later : Answer) (f : Form) (e : f ≡ formOf t) where
+  pub first-refused : (f .number ≡ 0 → ⊥) → refused (f .number) (f .place) ≡ formFirst t later
+  unfolding formFirst
+  first-refused n = rw (← e) (simp (ne-eqb _ _ n))
+
+  pub first-later : f .number ≡ 0 → later ≡ formFirst t later
+  unfolding formFirst
+  first-later z = rw (← e) (simp (eq-eqb _ _ z))
 
 -- ---- memory, by the answer r
 
@@ -76,11 +91,13 @@ answer-bytes m j e z =
 pub form-formed : (t : List ℕ) (f : Form) → f ≡ formOf t → f .number ≡ 0 → WellFormed t
 form-formed t f e z = form-well t (ap (λ (r : Form). r .number) (sym e) ∙ z)
 
--- the answer that is put together from the entry and the form
-pub fine-is : (m t : List ℕ) (f : Form) (entry : ℕ) (opens : Bool) → f ≡ formOf t → f .number ≡ 0 → entry ≡ wordAt t 0 → opens ≡ isOpen m entry
-    → record { number = 0; place = 0; address = 0; entry = entry; entry_open = opens; sections = f .sections; bytes = f .bytes } ≡ accepted m t
+-- the answer that is put together from the entry and the counts
+pub fine-is : (m t : List ℕ) (sections bytes entry : ℕ) (opens : Bool) → formOf t ≡ formed sections bytes → entry ≡ entryOf t → opens ≡ isOpen m entry
+    → record { number = 0; place = 0; address = 0; entry = entry; entry_open = opens; sections = sections; bytes = bytes } ≡ accepted m t
 unfolding accepted
-fine-is m t f entry opens e z p q = rw (q, p, e ∙ well-form t (form-formed t f e z))
+fine-is m t sections bytes entry opens e p q =
+    let f : formed sections bytes ≡ formed (length (reading t .sections)) (total (reading t .sections)) = sym e ∙ well-form t (form-formed t (formed sections bytes) (sym e) refl) in
+    rw (q, p, ap (λ (r : Form). r .sections) f, ap (λ (r : Form). r .bytes) f)
 
 -- ---- acceptance
 

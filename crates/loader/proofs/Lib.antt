@@ -1,5 +1,7 @@
 pub mod StoreLaws
+pub mod StretchLaws
 pub mod RuleLaws
 pub mod AnswerLaws
 pub mod LoadLaws
 pub mod SameLaws
+pub mod AcceptLaws

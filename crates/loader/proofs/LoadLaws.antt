@@ -3,25 +3,23 @@ use mathlib.Core.Path.{_≡_, refl, sym, _∙_, ap}
 use mathlib.Core.Logic.{_≢_, _↔_, by-cases}
 use mathlib.Core.List.{List, [], _∷_}
 use mathlib.Core.Bool.{true, false, not}
-use mathlib.Core.Option.{Option·getD}
-use Prim.Native.Nat.{ℕ, _+_}
+use mathlib.Core.Option.{Option, none, some, Option·getD}
+use Prim.Native.Nat.{ℕ}
 use native.Mathlib.Decide.{ℕ-discrete}
 use native.Mathlib.Omega.{arith}
 use lib.ListN.{length, getD}
 use lib.Dec.{eqb}
 use Rattle.words.specs.Refusal.{MEMORY-LENGTH, NOT-OPEN}
 use Rattle.words.proofs.ChoiceLaws.{if-both}
-use Rattle.region_map.specs.declared.Closed.{Closed}
-use Rattle.region_map.specs.declared.Closed.the-variants.{Nowhere, At}
 use Rattle.region_map.specs.Map.{mapAnswer, memorySize, isOpen, closedFrom, placeOf}
 use Rattle.region_map.specs.declared.MapAnswer.{MapAnswer}
 use Rattle.region_map.proofs.FaultLaws.{answer-sound, sound-answer}
-use Rattle.boot_table.specs.Table.{Sect, chunk, reading}
+use Rattle.boot_table.specs.Table.{Sect, nextOf, reading}
 use Rattle.boot_table.specs.Form.{formOf}
 use Rattle.boot_table.specs.Meaning.{lastByte}
 use Rattle.loader.specs.declared.Answer.{Answer}
 use Rattle.loader.specs.Store.{storeAll}
-use Rattle.loader.specs.Load.{refused, onClosed, accepted, mapRule, tableAnswer, judgeAnswer, loadAnswer, loadMemory, Accepted}
+use Rattle.loader.specs.Load.{refused, onClosed, accepted, mapRule, formFirst, tableAnswer, judgeAnswer, loadAnswer, loadMemory, Accepted}
 use Rattle.loader.proofs.StoreLaws.{length-storeAll, storeAll-at, storeAll-miss}
 use Rattle.loader.proofs.AnswerLaws.{map-refused, map-judged, load-refused, load-sized, load-judged, memory-kept, memory-stored, table-only, table-if}
 
@@ -68,18 +66,18 @@ Fair r = (r .number ≡ 0 → ⊥) → Blank r
 fair-refused : (number place : ℕ) → Fair (refused number place)
 fair-refused number place n = record { address = λ h. refl; entry = refl; entry_open = refl; sections = refl; bytes = refl }
 
-fair-closed : (at : ℕ) (later : Answer) (c : Closed) → Fair later → Fair (onClosed at later c)
-fair-closed at later Nowhere f = f
-fair-closed at later (At a) f = λ n. record { address = λ h. absurd (h refl); entry = refl; entry_open = refl; sections = refl; bytes = refl }
+fair-closed : (at : ℕ) (later : Answer) (c : Option ℕ) → Fair later → Fair (onClosed at later c)
+fair-closed at later none f = f
+fair-closed at later (some a) f = λ n. record { address = λ h. absurd (h refl); entry = refl; entry_open = refl; sections = refl; bytes = refl }
 
 fair-rule : (m : List ℕ) (fine : Answer) (at : ℕ) (ss : List Sect) → Fair fine → Fair (mapRule m fine at ss)
 unfolding mapRule
 fair-rule m fine at [] f = f
 fair-rule m fine at (s ∷ ss) f =
-    fair-closed at (mapRule m fine (at + length (chunk s)) ss) (closedFrom m (length (s .body)) (s .address)) (fair-rule m fine (at + length (chunk s)) ss f)
+    fair-closed at (mapRule m fine (nextOf at (length (s .body))) ss) (closedFrom m (length (s .body)) (s .address)) (fair-rule m fine (nextOf at (length (s .body))) ss f)
 
 fair-table : (m t : List ℕ) → Fair (tableAnswer m t)
-unfolding tableAnswer accepted
+unfolding tableAnswer formFirst accepted
 fair-table m t =
     if-both Fair (not (eqb (formOf t .number) 0)) _ _ (fair-refused (formOf t .number) (formOf t .place))
     (fair-rule m (accepted m t) 4 (reading t .sections) (λ n. absurd (n refl)))

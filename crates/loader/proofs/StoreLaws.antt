@@ -7,15 +7,13 @@ use mathlib.Core.Option.{Option, none, some, Option·getD}
 use Prim.Native.Nat.{ℕ, zero, suc, _+_, _-_, _≤_, _<_}
 use native.Mathlib.Omega.{arith}
 use native.Mathlib.Nat.{add-zero, add-suc, suc-add, add-sub-cancel-left}
-use lib.ListN.{length, getD, set, take, drop, length-set, take-append-drop}
+use lib.ListN.{length, getD, set, take, drop, length-set, length-take, length-drop, take-append-drop}
 use lib.Seq.{getD-set-same, getD-set-other, length-take-le, drop-drop, sets, sets-eq}
 use Rattle.words.specs.Choice.{if}
 use Rattle.words.specs.Run.{over}
 use Rattle.words.proofs.ChoiceLaws.{both-ways}
-use Rattle.words.proofs.RunLaws.{lent-back}
-use Rattle.region_map.specs.declared.Run.{Run}
-use Rattle.region_map.specs.Bounds.{RunAt}
-use borrow.Rule.Slice.PartMut.{putMid}
+use Rattle.region_map.specs.declared.places.Region.{Region}
+use Rattle.region_map.specs.Search.{Places}
 use Rattle.region_map.specs.Map.{SoundMap, isOpen, memorySize, placeOf}
 use Rattle.region_map.proofs.PlaceLaws.{place-lt, place-inj}
 use Rattle.boot_table.specs.declared.Step.the-variants.{Section, End}
@@ -69,14 +67,17 @@ pub store-run : (m xs mem : List ℕ) (a p : ℕ) → ((k : ℕ) → k < length 
 unfolding over
 store-run m xs mem a p row fits = sym (store-row m xs mem a p row ∙ sets-eq xs mem p fits)
 
--- a part of memory that got the first n bytes of a body from the run's place on
-pub run-stored : (m mem body z : List ℕ) (a n : ℕ) (r : Run) → RunAt m a r → length mem ≡ memorySize m → n ≤ r .count → n ≤ length body
-    → z ≡ take n body ++ drop (length (take n body)) (take (length mem - r .place) (drop (r .place) mem))
-    → putMid (r .place) (length mem - r .place) mem z ≡ storeBytes m mem a (take n body)
-run-stored m mem body z a n r run size few short e =
-    let l : length (take n body) ≡ n = length-take-le n body short in
-    lent-back mem (take n body) z (r .place) (omega (arith, run .inside)) e
-    ∙ store-run m (take n body) mem a (r .place) (λ k h. run .row k (omega arith)) (omega (arith, run .inside))
+-- the bytes that a region takes from an address on fit into the part of memory that begins at the address's place
+pub run-fits : (mem body : List ℕ) (r : Region) (a n : ℕ) → r .first ≤ a → n ≤ r .end - a → r .place + (r .end - r .first) ≤ length mem
+    → length (take n body) ≤ length (take (length mem - (r .place + (a - r .first))) (drop (r .place + (a - r .first)) mem))
+run-fits mem body r a n l u h = rw (length-take, length-take, length-drop) (omega arith)
+
+-- bytes that stand in a region are stored as one run
+pub region-stored : (m mem xs : List ℕ) (a : ℕ) (r : Region) → Places m r → r .first ≤ a → a < r .end → length mem ≡ memorySize m → length xs ≤ r .end - a
+    → over mem (r .place + (a - r .first)) xs ≡ storeBytes m mem a xs
+region-stored m mem xs a r g low high size few =
+    let i = g .inside in
+    store-run m xs mem a (r .place + (a - r .first)) (λ k h. g .row (a + k) (omega arith) (omega arith) ∙ omega arith) (omega arith)
 
 -- n bytes more of a section's data are stored
 pub store-more : (m mem body z : List ℕ) (a d n : ℕ) → n ≤ length (drop d body) → z ≡ storeBytes m mem (a + d) (take n (drop d body))

@@ -1,16 +1,16 @@
 -- Laws of places: those of a record stand in a row, they are inside memory, and no two open addresses share one.
-use mathlib.Core.Path.{_≡_, refl, ap, _∙_}
+use mathlib.Core.Path.{_≡_, refl, ap}
 use mathlib.Core.List.{List}
 use mathlib.Core.Bool.{true}
-use Prim.Native.Nat.{ℕ, _+_, _-_, _<_}
+use Prim.Native.Nat.{ℕ, _+_, _-_, _≤_, _<_}
 use native.Mathlib.Decide.{ℕ-discrete, decLt}
 use native.Mathlib.Omega.{arith}
 use Rattle.words.proofs.ChoiceLaws.{both-ways}
-use Rattle.region_map.specs.declared.Found.the-variants.{Nothing, Index}
-use Rattle.region_map.specs.declared.Found.{Found}
-use Rattle.region_map.specs.Map.{count, permitted, firstAt, endAt, anyHolds, SoundMap, sizeBefore, memorySize, isOpen, holder, placeIn, placeOf}
-use Rattle.region_map.specs.Bounds.{RunAt}
-use Rattle.region_map.proofs.RecordLaws.{HeldBy, held-among, held-more, held-any, holder-only, holder-none, size-more}
+use Rattle.region_map.specs.declared.addresses.Found.the-variants.{Nothing, Index}
+use Rattle.region_map.specs.declared.addresses.Found.{Found}
+use Rattle.region_map.specs.Map.{count, permitted, firstAt, anyHolds, SoundMap, sizeBefore, memorySize, isOpen, holder, placeIn, placeOf}
+use Rattle.region_map.specs.Search.{regionIn, regionOf, Places}
+use Rattle.region_map.proofs.RecordLaws.{HeldBy, held-among, held-any, holder-only, holder-none, size-more}
 use Rattle.region_map.proofs.FaultLaws.{sound-apart}
 use Rattle.region_map.proofs.OpenLaws.{open-holder}
 
@@ -75,14 +75,22 @@ module _ (m : List ℕ) (sound : SoundMap m) where
       go Nothing e = absurd (both-ways (anyHolds (permitted m) m (count m) x) (held-any m (count m) x i p) (holder-none m (count m) x e))
       go (Index j) e = let u : j ≡ i = one x j i (holder-only m (count m) x j e) p in rw u at (place-found m x j e)
 
-  -- and has its places in a row
-  pub run-in : (i a p n : ℕ) → HeldBy m (count m) a i → p ≡ sizeBefore m i + (a - firstAt m i) → n ≡ endAt m i - a → RunAt m a (record { place = p; count = n })
-  run-in i a p n h e f =
-      let g = size-more m (count m) i (h .few) (h .kind) in
-      let l = h .low in
-      let u = h .high in
-      record {
-        some = omega arith;
-        row = λ k w. place-is i (a + k) (held-more m (count m) a i (a + k) h (omega arith) (omega arith)) ∙ omega arith;
-        inside = omega arith;
-      }
+  -- the addresses of a region have their places in a row, inside memory
+  pub region-places : (a : ℕ) → Places m (regionOf m a)
+  unfolding regionOf
+  region-places a = go (holder m (count m) a) refl
+    where
+      go : (f : Found) → holder m (count m) a ≡ f → Places m (regionIn m f)
+      go Nothing e = record { row = λ x l u. absurd (omega arith); inside = omega arith }
+      go (Index i) e =
+          let h = holder-only m (count m) a i e in
+          let g = size-more m (count m) i (h .few) (h .kind) in
+          record { row = λ x l u. place-is i x (record { few = h .few; kind = h .kind; low = l; high = u }); inside = omega arith }
+
+-- the region of an open address holds it
+pub region-holds : (m : List ℕ) (a : ℕ) → isOpen m a ≡ true → (regionOf m a .first ≤ a) × (a < regionOf m a .end)
+unfolding regionOf
+region-holds m a o =
+    let h = open-holder m a o in
+    let b = holder-only m (count m) a (h .0) (h .1) in
+    rw (h .1) (b .low, b .high)

@@ -10,7 +10,8 @@ use lib.Dec.{ltb, leb}
 use borrow.Author.Tests.{lt-ltb, le-ltb, lt-leb, le-leb, ltb-true, leb-true}
 use Rattle.words.specs.Choice.{if}
 use Rattle.words.proofs.ChoiceLaws.{and-yes, and-no, or-yes, if-split}
-use Rattle.region_map.specs.declared.Found.the-variants.{Nothing, Index}
+use Rattle.region_map.specs.declared.addresses.Found.the-variants.{Nothing, Index}
+use Rattle.region_map.specs.Search.{touchingBefore, touchingAfter}
 use Rattle.region_map.specs.Map.{permitted, firstAt, lengthAt, endAt, holds, anyHolds, holder, sizeBefore}
 
 -- some records are those before the last, and the last
@@ -47,11 +48,6 @@ any-yes kind m (suc n) i a k e = go (ℕ-discrete i n) (λ l. any-yes kind m n i
     go (yes q) ih = let w : (kind n && holds m n a) ≡ true = rw (← q) e in rw w
     go (no q) ih = or-yes (kind n && holds m n a) (anyHolds kind m n a) (ih (omega arith))
 
--- no record does up to i, nor does i
-pub any-next : (kind : ℕ → Bool) (m : List ℕ) (i a : ℕ) → (kind i && holds m i a) ≡ false → anyHolds kind m i a ≡ false → anyHolds kind m (i + 1) a ≡ false
-unfolding anyHolds
-any-next kind m i a e f = rw (add-one, e, f)
-
 -- the permitted record that holds a: the last of n, or one before it
 pub holder-at : (m : List ℕ) (n a : ℕ) → 0 < n → true ≡ (permitted m (n - 1) && holds m (n - 1) a) → Index (n - 1) ≡ holder m n a
 unfolding holder
@@ -61,6 +57,26 @@ holder-at m n a k e =
 pub holder-no : (m : List ℕ) (n a : ℕ) → 0 < n → false ≡ (permitted m (n - 1) && holds m (n - 1) a) → holder m n a ≡ holder m (n - 1) a
 unfolding holder
 holder-no m n a k e = ap (λ (x : ℕ). holder m x a) (last n k) ∙ simp (← e)
+
+-- how far the records before n permit from a on: the last of them decides
+pub before-yes : (m : List ℕ) (n a : ℕ) → 0 < n → true ≡ (permitted m (n - 1) && holds m (n - 1) a)
+    → touchingBefore m n a ≡ touchingBefore m (n - 1) (endAt m (n - 1))
+unfolding touchingBefore
+before-yes m n a k e = ap (λ (x : ℕ). touchingBefore m x a) (last n k) ∙ simp (← e)
+
+pub before-no : (m : List ℕ) (n a : ℕ) → 0 < n → false ≡ (permitted m (n - 1) && holds m (n - 1) a) → touchingBefore m n a ≡ a
+unfolding touchingBefore
+before-no m n a k e = ap (λ (x : ℕ). touchingBefore m x a) (last n k) ∙ simp (← e)
+
+-- and those from i up to n: record i decides
+pub after-yes : (m : List ℕ) (n i a : ℕ) → i < n → true ≡ (permitted m i && holds m i a)
+    → touchingAfter m (n - i) i a ≡ touchingAfter m (n - (i + 1)) (i + 1) (endAt m i)
+unfolding touchingAfter
+after-yes m n i a k e = let l : n - i ≡ suc (n - (i + 1)) = omega arith in ap (λ (x : ℕ). touchingAfter m x i a) l ∙ simp (← e, add-one)
+
+pub after-no : (m : List ℕ) (n i a : ℕ) → i < n → false ≡ (permitted m i && holds m i a) → touchingAfter m (n - i) i a ≡ a
+unfolding touchingAfter
+after-no m n i a k e = let l : n - i ≡ suc (n - (i + 1)) = omega arith in ap (λ (x : ℕ). touchingAfter m x i a) l ∙ simp (← e)
 
 -- what is not found is not at i
 found-not : (i : ℕ) → Nothing ≡ Index i → ⊥

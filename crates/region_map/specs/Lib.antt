@@ -1,2 +1,2 @@
 pub mod Map
-pub mod Bounds
+pub mod Search

@@ -2,49 +2,67 @@
 use Prim.Native.Nat.{ℕ, zero, suc, _+_, _-_, _*_, _/_, _%_, _^_}
 use mathlib.Core.Path.{_≡_}
 use mathlib.Core.List.{List}
-use mathlib.Core.Bool.{Bool, true, false, not, _&&_, _||_}
+use mathlib.Core.Bool.{Bool, false, not, _&&_, _||_}
+use mathlib.Core.Option.{Option, none, some}
 use lib.ListN.{length, getD}
 use lib.Dec.{ltb, leb, eqb}
 use Rattle.words.specs.Choice.{if}
 use Rattle.words.specs.Word.{wordAt}
 use Rattle.words.specs.Refusal.{MAP-LENGTH, MAP-RECORD}
-use Rattle.region_map.specs.declared.MapFault.{MapFault}
-use Rattle.region_map.specs.declared.MapFault.the-variants.{Sound, Length, Record}
+use Rattle.region_map.specs.declared.records.MapFault.{MapFault}
+use Rattle.region_map.specs.declared.records.MapFault.the-variants.{Sound, Length, Record}
 use Rattle.region_map.specs.declared.MapAnswer.{MapAnswer}
-use Rattle.region_map.specs.declared.Found.{Found}
-use Rattle.region_map.specs.declared.Found.the-variants.{Nothing, Index}
-use Rattle.region_map.specs.declared.Closed.{Closed}
-use Rattle.region_map.specs.declared.Closed.the-variants.{Nowhere, At}
+use Rattle.region_map.specs.declared.addresses.Found.{Found}
+use Rattle.region_map.specs.declared.addresses.Found.the-variants.{Nothing, Index}
 
 -- ---- records
 
--- how many records of 12 bytes a map has
-abbrev pub count : List ℕ → ℕ
-count m = length m / 12
+-- how many bytes a record has
+abbrev pub recordSize : ℕ
+recordSize = 12
 
--- bytes 0-1 of record i are the mark 0x52 0x47
+-- how many bytes a map has at most: those of 64 records
+abbrev pub mapLimit : ℕ
+mapLimit = 768
+
+-- how many records a map has
+abbrev pub count : List ℕ → ℕ
+count m = length m / recordSize
+
+-- the two bytes of the mark
+abbrev pub markFirst : ℕ
+markFirst = 0x52
+
+abbrev pub markSecond : ℕ
+markSecond = 0x47
+
+-- bytes 0-1 of record i are the mark
 unfoldable pub marked : List ℕ → ℕ → Bool
-marked m i = eqb (getD m (12 * i) 0) 0x52 && eqb (getD m (12 * i + 1) 0) 0x47
+marked m i = eqb (getD m (recordSize * i) 0) markFirst && eqb (getD m (recordSize * i + 1) 0) markSecond
 
 -- byte 2, the kind: 1 is permitted
 unfoldable pub permitted : List ℕ → ℕ → Bool
-permitted m i = eqb (getD m (12 * i + 2) 0) 1
+permitted m i = eqb (getD m (recordSize * i + 2) 0) 1
 
 -- 2 is reserved
 unfoldable pub reserved : List ℕ → ℕ → Bool
-reserved m i = eqb (getD m (12 * i + 2) 0) 2
+reserved m i = eqb (getD m (recordSize * i + 2) 0) 2
+
+-- no other kind is known
+unfoldable pub known : List ℕ → ℕ → Bool
+known m i = permitted m i || reserved m i
 
 -- byte 3 is zero
 unfoldable pub zeroed : List ℕ → ℕ → Bool
-zeroed m i = eqb (getD m (12 * i + 3) 0) 0
+zeroed m i = eqb (getD m (recordSize * i + 3) 0) 0
 
 -- bytes 4-7: the first address
 abbrev pub firstAt : List ℕ → ℕ → ℕ
-firstAt m i = wordAt m (12 * i + 4)
+firstAt m i = wordAt m (recordSize * i + 4)
 
 -- bytes 8-11: the length
 abbrev pub lengthAt : List ℕ → ℕ → ℕ
-lengthAt m i = wordAt m (12 * i + 8)
+lengthAt m i = wordAt m (recordSize * i + 8)
 
 -- the address after the last of record i
 abbrev pub endAt : List ℕ → ℕ → ℕ
@@ -68,7 +86,7 @@ sharesAny m i (suc j) = (permitted m j && shares m i j) || sharesAny m i j
 -- record i breaks no rule
 unfoldable pub soundAt : List ℕ → ℕ → Bool
 soundAt m i =
-    marked m i && (permitted m i || reserved m i) && zeroed m i && leb 1 (lengthAt m i) && leb (endAt m i) (2 ^ 32)
+    marked m i && known m i && zeroed m i && leb 1 (lengthAt m i) && leb (endAt m i) (2 ^ 32)
     && not (permitted m i && sharesAny m i i)
 
 -- the first of the n records from i on that breaks a rule
@@ -78,7 +96,7 @@ faultFrom m (suc n) i = if (soundAt m i) (faultFrom m n (suc i)) (Record i)
 
 -- the first fault of a map: its length, or a record
 unfoldable pub mapFault : List ℕ → MapFault
-mapFault m = if (eqb (length m % 12) 0 && leb (length m) 768) (faultFrom m (count m) 0) Length
+mapFault m = if (eqb (length m % recordSize) 0 && leb (length m) mapLimit) (faultFrom m (count m) 0) Length
 
 -- a map with no fault is sound
 abbrev pub SoundMap : List ℕ → Type 0
@@ -95,10 +113,10 @@ anyHolds kind m (suc i) a = (kind i && holds m i a) || anyHolds kind m i a
 unfoldable pub isOpen : List ℕ → ℕ → Bool
 isOpen m a = anyHolds (permitted m) m (count m) a && not (anyHolds (reserved m) m (count m) a)
 
--- the lowest of the n addresses from a on that is not open
-unfoldable pub closedFrom : List ℕ → ℕ → ℕ → Closed
-closedFrom m zero a = Nowhere
-closedFrom m (suc n) a = if (isOpen m a) (closedFrom m n (suc a)) (At a)
+-- the lowest of the n addresses from a on that is not open, if there is one
+unfoldable pub closedFrom : List ℕ → ℕ → ℕ → Option ℕ
+closedFrom m zero a = none
+closedFrom m (suc n) a = if (isOpen m a) (closedFrom m n (suc a)) (some a)
 
 -- ---- memory and places
 
@@ -127,10 +145,11 @@ placeOf m a = placeIn m a (holder m (count m) a)
 
 -- ---- judging a map
 
--- what judging a map answers: the number and place of its fault, or the permitted sum
+-- a refusal: its number and place, all else zero
 abbrev pub mapRefused : ℕ → ℕ → MapAnswer
 mapRefused number place = record { number = number; place = place; bytes = 0 }
 
+-- what judging a map answers: the number and place of its fault, or the permitted sum
 unfoldable pub faultAnswer : List ℕ → MapFault → MapAnswer
 faultAnswer m Sound = record { number = 0; place = 0; bytes = memorySize m }
 faultAnswer m Length = mapRefused MAP-LENGTH 0

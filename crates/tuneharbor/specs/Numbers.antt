@@ -9,12 +9,8 @@ use Rattle.joiner.specs.declared.Joined.{Joined}
 use Rattle.boot_config.specs.declared.Configured.{Configured}
 use Rattle.boot_strap.specs.declared.Manner.{Manner}
 use Rattle.boot_strap.specs.declared.Manner.the-variants.{Strict, Lenient}
-use Rattle.boot_strap.specs.declared.Values.{Values}
-use Rattle.boot_strap.specs.declared.StrapAnswer.{StrapAnswer}
-use Rattle.boot_strap.specs.declared.StrapAnswer.the-variants.{Decoded, Refused}
 use Rattle.boot_strap.specs.declared.SameAnswer.{SameAnswer}
 use Rattle.boot_strap.specs.declared.LabelAnswer.{LabelAnswer}
-use Rattle.boot_strap.specs.Strap.{valuesOf}
 
 -- number, place, permitted sum
 unfoldable pub mapNumbers : MapAnswer → List ℕ
@@ -24,9 +20,9 @@ mapNumbers r = r .number ∷ r .place ∷ r .bytes ∷ []
 unfoldable pub loadNumbers : Answer → List ℕ
 loadNumbers r = r .number ∷ r .place ∷ r .address ∷ r .entry ∷ boolByte (r .«entry_open») ∷ r .sections ∷ r .bytes ∷ []
 
--- number, place, table, length, sections
+-- number, place, which table, length, sections
 unfoldable pub joinNumbers : Joined → List ℕ
-joinNumbers r = r .number ∷ r .place ∷ r .table ∷ r .length ∷ r .sections ∷ []
+joinNumbers r = r .number ∷ r .place ∷ r .which ∷ r .length ∷ r .sections ∷ []
 
 -- number, place, entries, bits
 unfoldable pub configNumbers : Configured → List ℕ
@@ -36,14 +32,6 @@ configNumbers r = r .number ∷ r .place ∷ r .entries ∷ r .bits ∷ []
 abbrev pub mannerOf : Bool → Manner
 mannerOf true = Strict
 mannerOf false = Lenient
-
-abbrev pub valueNumbers : Values → List ℕ
-valueNumbers v = v .kind ∷ v .first ∷ v .second ∷ v .third ∷ v .fourth ∷ v .fifth ∷ v .sixth ∷ []
-
--- number, place, kind, and the kind's fields in document 01's order, zero after; a refusal has zero after its number
-unfoldable pub strapNumbers : StrapAnswer → List ℕ
-strapNumbers (Refused number) = number ∷ 0 ∷ 0 ∷ 0 ∷ 0 ∷ 0 ∷ 0 ∷ 0 ∷ 0 ∷ []
-strapNumbers (Decoded s) = 0 ∷ 0 ∷ valueNumbers (valuesOf s)
 
 -- number, place, same
 unfoldable pub sameNumbers : SameAnswer → List ℕ

@@ -5,12 +5,11 @@ ghost use Rattle.region_map.specs.Map.{mapAnswer};
 ghost use Rattle.loader.specs.Load.{judgeAnswer, loadAnswer, loadMemory};
 ghost use Rattle.joiner.specs.Join.{joinAnswer, joinOutput};
 ghost use Rattle.boot_config.specs.Config.{configAnswer, configValues};
-ghost use Rattle.boot_strap.specs.Strap.{decodeAs, decodeShort, sameAnswer, labelAnswer};
+ghost use Rattle.boot_strap.specs.Strap.{numbersAs, numbersShort, nine, sameAnswer, labelAnswer};
 ghost use Rattle.tuneharbor.specs.Numbers.{mapNumbers, loadNumbers, joinNumbers, configNumbers};
-ghost use Rattle.tuneharbor.specs.Numbers.{mannerOf, strapNumbers, sameNumbers, labelNumbers};
+ghost use Rattle.tuneharbor.specs.Numbers.{mannerOf, sameNumbers, labelNumbers};
 use boot_config::configure;
 use boot_strap::Manner;
-use boot_strap::StrapAnswer;
 use joiner::join;
 use loader::Answer;
 use loader::judge;
@@ -78,7 +77,7 @@ pub extern "C" fn tuneharbor_join(
     *answer = [
         r.number as u64,
         r.place as u64,
-        r.table as u64,
+        r.which as u64,
         r.length as u64,
         r.sections as u64,
     ];
@@ -104,29 +103,6 @@ pub extern "C" fn tuneharbor_configure(
     ];
 }
 
-// A strap answer as numbers.
-fn strap_numbers(r: StrapAnswer) -> [u64; 9]
-    ensures { λ n. ⌜ n ≡ strapNumbers r ⌝ }
-{
-    match r {
-        StrapAnswer::Refused(number) => [number as u64, 0, 0, 0, 0, 0, 0, 0, 0],
-        StrapAnswer::Decoded(strap) => {
-            let v = boot_strap::values_of(strap);
-            [
-                0,
-                0,
-                v.kind as u64,
-                v.first as u64,
-                v.second as u64,
-                v.third as u64,
-                v.fourth as u64,
-                v.fifth as u64,
-                v.sixth as u64,
-            ]
-        }
-    }
-}
-
 fn manner_of(strict: bool) -> Manner
     ensures { λ r. ⌜ r ≡ mannerOf strict ⌝ }
 {
@@ -140,17 +116,17 @@ fn manner_of(strict: bool) -> Manner
 // Decodes a strap value, strictly or leniently.
 #[no_mangle]
 pub extern "C" fn tuneharbor_strap(value: u32, strict: bool, answer: &mut [u64; 9])
-    ensures { λ _. ⌜ now (answer .exit) ≡ strapNumbers (decodeAs (mannerOf strict) value) ⌝ }
+    ensures { λ _. ⌜ now (answer .exit) ≡ nine (numbersAs (mannerOf strict) value) ⌝ }
 {
-    *answer = strap_numbers(boot_strap::decode_as(value, manner_of(strict)));
+    *answer = boot_strap::numbers(boot_strap::decode_as(value, manner_of(strict)));
 }
 
 // Decodes a strap value where no manner is named.
 #[no_mangle]
 pub extern "C" fn tuneharbor_strap_short(value: u32, answer: &mut [u64; 9])
-    ensures { λ _. ⌜ now (answer .exit) ≡ strapNumbers (decodeShort value) ⌝ }
+    ensures { λ _. ⌜ now (answer .exit) ≡ nine (numbersShort value) ⌝ }
 {
-    *answer = strap_numbers(boot_strap::decode(value));
+    *answer = boot_strap::numbers(boot_strap::decode(value));
 }
 
 // Whether two strap values have one kind and equal fields.

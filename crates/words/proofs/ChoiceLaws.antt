@@ -9,11 +9,6 @@ use Rattle.words.specs.Choice.{if}
 pub both-ways : (b : Bool) → b ≡ true → b ≡ false → ⊥
 both-ways b p q = let z : _≡_ {A = ℕ} 0 1 = cc in omega arith
 
--- a test that cannot hold fails
-pub never-true : (b : Bool) → (b ≡ true → ⊥) → b ≡ false
-never-true true n = absurd (n refl)
-never-true false n = refl
-
 -- two tests, both of which hold
 pub and-yes : (a b : Bool) → (a && b) ≡ true → (a ≡ true) × (b ≡ true)
 and-yes true b e = (refl, e)

@@ -37,9 +37,9 @@ PAST-TOP = 8
 abbrev pub NOT-OPEN : ℕ
 NOT-OPEN = 9
 
--- the join is over the table's limit
-abbrev pub JOIN-LONG : ℕ
-JOIN-LONG = 10
+-- the table that would be written is over the limit of a table
+abbrev pub RESULT-LONG : ℕ
+RESULT-LONG = 10
 
 -- the output is shorter than the result
 abbrev pub OUTPUT-SHORT : ℕ

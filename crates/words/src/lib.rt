@@ -1,7 +1,7 @@
-// Words, pads and runs of bytes: what the map and the table are read and stored with.
+// Words, pads and runs of bytes, with which maps and tables are read and stored, and the lower and the higher of two numbers.
 ghost use mathlib.Core.List.{_++_};
 ghost use mathlib.Core.Path.{_≡_};
-ghost use Prim.Native.Nat.{_+_, _*_, _≤_};
+ghost use Prim.Native.Nat.{_+_, _*_, _^_, _≤_, _<_, min, max};
 ghost use lib.ListN.{length, drop};
 ghost use Rattle.words.specs.Word.{wordAt, padCount};
 
@@ -25,11 +25,26 @@ pub fn word_at(bytes: &[u8], at: usize) -> u32
     word(bytes[at], bytes[at + 1], bytes[at + 2], bytes[at + 3])
 }
 
-// How many pad bytes stand after so many data bytes.
-pub fn pad_count(size: usize) -> usize
-    ensures { λ r. ⌜ r ≡ padCount size ⌝ }
+// So many data bytes and their pads: the next multiple of four.
+pub fn padded(size: usize) -> usize
+    requires { ⌜ size < 2 ^ 32 ⌝ }
+    ensures { λ r. ⌜ r ≡ size + padCount size ⌝ }
 {
-    (4 - size % 4) % 4
+    (size + 3) / 4 * 4
+}
+
+// The lower of two numbers.
+pub fn lower(a: u64, b: u64) -> u64
+    ensures { λ r. ⌜ r ≡ min a b ⌝ }
+{
+    if a < b { a } else { b }
+}
+
+// The higher of two numbers.
+pub fn higher(a: u64, b: u64) -> u64
+    ensures { λ r. ⌜ r ≡ max a b ⌝ }
+{
+    if a < b { b } else { a }
 }
 
 // Copies a run of bytes to the front of a part.

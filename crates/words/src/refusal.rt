@@ -27,8 +27,8 @@ pub const PAST_TOP: u32 = 8;
 // An address is not open.
 pub const NOT_OPEN: u32 = 9;
 
-// The join is over the table's limit.
-pub const JOIN_LONG: u32 = 10;
+// The table that would be written is over the limit of a table.
+pub const RESULT_LONG: u32 = 10;
 
 // The output is shorter than the result.
 pub const OUTPUT_SHORT: u32 = 11;

@@ -41,7 +41,8 @@ loop-again : tie.Need-loop-again Inv-loop μ-loop
 loop-again c =
     let l = c .before .before in
     let a = l .before .args in
-    (omega arith, simp length-set (l .loop .inv .1), rw (l .loop .inv .2) (copy-more (a .from .now) (a .to .now) (l .loop .i) (omega arith) (omega arith)))
+    let more = copy-more (a .from .now) (a .to .now) (l .loop .i) (omega arith) (omega arith) in
+    (omega arith, simp length-set (l .loop .inv .1), rw (l .loop .inv .2) more)
 
 same-length : tie.Need-same-length Inv-loop μ-loop
 same-length c = search needs
@@ -50,7 +51,8 @@ returns : tie.Need-returns Inv-loop μ-loop
 returns c =
     let l = c .before in
     let a = l .before .args in
-    l .loop .inv .2 ∙ rw (take-all (l .loop .i) (a .from .now) (omega arith), drop-of-length-le (a .to .now) {i = l .loop .i} (omega arith), append-nil)
+    l .loop .inv .2
+    ∙ rw (take-all (l .loop .i) (a .from .now) (omega arith), drop-of-length-le (a .to .now) {i = l .loop .i} (omega arith), append-nil)
 
 pub copy-values-spec : {M : Type 1} → statement M
 copy-values-spec =

@@ -41,7 +41,8 @@ returns-2 c =
     let z = c .before .before .before in
     let w = z .before in
     c .fault2 .ensures
-    ∙ sym (entry-branch _ _ _ (omega arith) (w .before .before .word-at .ensures) (w .before .word-at2 .ensures) (w .word-at3 .ensures) (z .if2 .taken) (c .before .before .if3 .taken) (c .before .if4 .taken))
+    ∙ sym (entry-branch _ _ _ (omega arith) (w .before .before .word-at .ensures) (w .before .word-at2 .ensures) (w .word-at3 .ensures)
+    (z .if2 .taken) (c .before .before .if3 .taken) (c .before .if4 .taken))
 
 add-if5 : tie.Need-add-if5
 add-if5 c = search needs
@@ -57,13 +58,15 @@ returns-3 c =
     let z = c .before .before .before .before in
     let w = z .before in
     c .fault3 .ensures
-    ∙ sym (entry-after _ _ _ (omega arith) (w .before .before .word-at .ensures) (w .before .word-at2 .ensures) (w .word-at3 .ensures) (z .if2 .taken) (c .before .before .before .if3 .taken) (omega arith) (omega arith))
+    ∙ sym (entry-after _ _ _ (omega arith) (w .before .before .word-at .ensures) (w .before .word-at2 .ensures) (w .word-at3 .ensures)
+    (z .if2 .taken) (c .before .before .before .if3 .taken) (omega arith) (omega arith))
 
 returns-4 : tie.Need-returns-4
 returns-4 c =
     let z = c .before .before .before in
     let w = z .before in
-    sym (entry-end _ _ _ (omega arith) (w .before .before .word-at .ensures) (w .before .word-at2 .ensures) (w .word-at3 .ensures) (z .if2 .taken) (c .before .before .if3 .taken) (omega arith) (omega arith))
+    sym (entry-end _ _ _ (omega arith) (w .before .before .word-at .ensures) (w .before .word-at2 .ensures) (w .word-at3 .ensures)
+    (z .if2 .taken) (c .before .before .if3 .taken) (omega arith) (omega arith))
 
 -- an entry that is searched for has a mask that is not zero
 some-mask : (c : tie.After-find) → (eqb (c .before .before .before .word-at2 .result) 0 && eqb (c .before .before .word-at3 .result) 0) ≡ false
@@ -84,13 +87,15 @@ returns-5 c =
     let f = c .before .before in
     let w = f .before .before in
     c .fault4 .ensures
-    ∙ sym (entry-unknown _ _ _ (omega arith) (w .before .before .word-at .ensures) (w .before .word-at2 .ensures) (w .word-at3 .ensures) (some-mask f) (f .find .ensures) (c .before .if6 .taken))
+    ∙ sym (entry-unknown _ _ _ (omega arith) (w .before .before .word-at .ensures) (w .before .word-at2 .ensures) (w .word-at3 .ensures)
+    (some-mask f) (f .find .ensures) (c .before .if6 .taken))
 
 returns-6 : tie.Need-returns-6
 returns-6 c =
     let f = c .before in
     let w = f .before .before in
-    sym (entry-change _ _ _ (omega arith) (w .before .before .word-at .ensures) (w .before .word-at2 .ensures) (w .word-at3 .ensures) (some-mask f) (f .find .ensures) (c .if6 .left))
+    sym (entry-change _ _ _ (omega arith) (w .before .before .word-at .ensures) (w .before .word-at2 .ensures) (w .word-at3 .ensures)
+    (some-mask f) (f .find .ensures) (c .if6 .left))
 
 pub entry-at-spec : {M : Type 1} → statement M
 entry-at-spec =

@@ -1,68 +1,80 @@
--- `boot_config::find`: the addresses before low are below the one that is searched, and those from high on are above it.
-use Prim.Native.Nat.{ℕ, _+_, _-_, _/_, _≤_, _<_}
-use mathlib.Core.Path.{sym}
+-- `boot_config::find`: each turn halves the places where the address can stand, and as many turns as halve 1,023 leave one.
+use Prim.Native.Nat.{_+_, _*_, _/_, _≤_}
+use mathlib.Core.Path.{_≡_, sym}
 use native.Mathlib.Omega.{arith}
 use borrow.Author.Needs.{needs}
-use lib.ListN.{length, getD}
-use Rattle.boot_config.proofs.RegisterLaws.{found, below, above, not-found}
+use Rattle.boot_config.proofs.RegisterLaws.{index-le, Between, found, halved, not-found}
 use Rattle.boot_config.proofs.find.Statement.{statement}
 use Rattle.boot_config.proofs.find.Tie as tie
 
 abbrev Inv-loop : tie.InvT-loop
-Inv-loop addresses address low₀ high₀ low high = (high ≤ length addresses) × (low ≤ high) × ((k : ℕ) → k < low → getD addresses k 0 < address) × ((k : ℕ) → high ≤ k → k < length addresses → address < getD addresses k 0)
+Inv-loop addresses address low₀ more₀ most₀ low more most = (more ≤ most) × Between addresses address low more
 
 abbrev μ-loop : tie.MeasureT-loop
-μ-loop addresses address low₀ high₀ low high = high - low
-
-loop-holds : tie.Need-loop-holds Inv-loop μ-loop
-loop-holds c = search needs
-
-sub-middle : tie.Need-sub-middle Inv-loop μ-loop
-sub-middle c = search needs
-
-add-middle : tie.Need-add-middle Inv-loop μ-loop
-add-middle c = search needs
-
-mul-there : tie.Need-mul-there Inv-loop μ-loop
-mul-there c = search needs
-
-shared-slice-read-there : tie.Need-shared-slice-read-there Inv-loop μ-loop
-shared-slice-read-there c = search needs
+μ-loop addresses address low₀ more₀ most₀ low more most = most
 
 returns : tie.Need-returns Inv-loop μ-loop
-returns c =
-    let s = c .before .before .before .before in
-    let l = c .before .before .before .loop in
-    sym (found _ (s .pre) _ (l .low + (l .high - l .low) / 2) (omega arith) (c .if1 .taken))
+returns c = omega (arith, index-le (c .before .before .args .addresses .now) (c .before .before .args .address))
+
+sub-more : tie.Need-sub-more Inv-loop μ-loop
+sub-more c = omega arith
+
+sub-most : tie.Need-sub-most Inv-loop μ-loop
+sub-most c = search needs
+
+loop-holds : tie.Need-loop-holds Inv-loop μ-loop
+loop-holds c = (omega arith, record { inside = omega arith; before = λ k l. absurd (omega arith); after = λ k l u. absurd (omega arith) })
+
+add-half : tie.Need-add-half Inv-loop μ-loop
+add-half c = omega (arith, c .before .loop .inv)
+
+add-reaches : tie.Need-add-reaches Inv-loop μ-loop
+add-reaches c = omega (arith, c .before .loop .inv)
+
+mul-reaches : tie.Need-mul-reaches Inv-loop μ-loop
+mul-reaches c = omega (arith, c .before .loop .inv)
+
+shared-slice-read-reaches : tie.Need-shared-slice-read-reaches Inv-loop μ-loop
+shared-slice-read-reaches c = omega (arith, c .before .before .loop .inv)
+
+reaches-requires : tie.Need-reaches-requires Inv-loop μ-loop
+reaches-requires c κs = search needs
+
+-- the places that a turn leaves
+turn : (c : tie.After-reaches Inv-loop μ-loop) → let p = c .before .before .before in let l = p .loop in let a = p .before .before .before .args in
+    Between (a .addresses .now) (a .address) (l .low + (l .more + 1) / 2 * c .reaches .result) (l .more / 2)
+turn c =
+    let p = c .before .before .before in
+    halved _ (p .before .before .before .pre .rise) _ _ _ _ (p .loop .inv .1) (c .reaches .ensures .0) (c .reaches .ensures .1)
+
+mul-low : tie.Need-mul-low Inv-loop μ-loop
+mul-low c = omega (arith, turn c .inside)
 
 add-low : tie.Need-add-low Inv-loop μ-loop
-add-low c = search needs
+add-low c = omega (arith, turn c .inside)
 
 loop-less : tie.Need-loop-less Inv-loop μ-loop
-loop-less c = search needs
+loop-less c = omega arith
 
 loop-again : tie.Need-loop-again Inv-loop μ-loop
-loop-again c =
-    let s = c .before .before .before .before .before in
-    let l = c .before .before .before .before .loop in
-    let m = below _ (s .pre) (s .args .address) (l .low + (l .high - l .low) / 2) (omega arith) (omega arith) in
-    (omega arith, omega arith, m, l .inv .3)
+loop-again c = (omega arith, turn c)
 
-loop-less-2 : tie.Need-loop-less-2 Inv-loop μ-loop
-loop-less-2 c = search needs
+mul-if2 : tie.Need-mul-if2 Inv-loop μ-loop
+mul-if2 c = omega (arith, c .before .loop .inv)
 
-loop-again-2 : tie.Need-loop-again-2 Inv-loop μ-loop
-loop-again-2 c =
-    let s = c .before .before .before .before .before in
-    let l = c .before .before .before .before .loop in
-    let m = above _ (s .pre) (s .args .address) (l .low + (l .high - l .low) / 2) (omega arith) in
-    (omega arith, omega arith, l .inv .2, m)
+shared-slice-read-if2 : tie.Need-shared-slice-read-if2 Inv-loop μ-loop
+shared-slice-read-if2 c = omega (arith, c .before .before .loop .inv)
 
 returns-2 : tie.Need-returns-2 Inv-loop μ-loop
 returns-2 c =
-    let s = c .before .before in
-    let l = c .before .loop in
-    sym (not-found _ (s .pre) _ (l .low) (l .inv .2) (λ k m h. l .inv .3 k (omega arith) h))
+    let p = c .before .before .before in
+    sym (found _ (p .before .before .before .pre .rise) _ _ (omega (arith, p .loop .inv)) (c .if2 .taken))
+
+returns-3 : tie.Need-returns-3 Inv-loop μ-loop
+returns-3 c =
+    let l = c .before .before .before .loop in
+    let e : l .more ≡ 0 = omega arith in
+    sym (not-found _ _ (l .low) (rw e at (l .inv .1)) (c .if2 .left))
 
 pub find-spec : {M : Type 1} → statement M
 find-spec =
@@ -70,15 +82,20 @@ find-spec =
     (tie.spec
     Inv-loop
     μ-loop
-    loop-holds
-    sub-middle
-    add-middle
-    mul-there
-    shared-slice-read-there
     returns
+    sub-more
+    sub-most
+    loop-holds
+    add-half
+    add-reaches
+    mul-reaches
+    shared-slice-read-reaches
+    reaches-requires
+    mul-low
     add-low
     loop-less
     loop-again
-    loop-less-2
-    loop-again-2
-    returns-2)
+    mul-if2
+    shared-slice-read-if2
+    returns-2
+    returns-3)

@@ -14,16 +14,16 @@ enum-known-number c = search needs
 enum-known-strap : tie.Need-enum-known-strap
 enum-known-strap c = search needs
 
-label-of-requires : tie.Need-label-of-requires
-label-of-requires c κs = search needs
+kind-of-requires : tie.Need-kind-of-requires
+kind-of-requires c κs = search needs
 
 returns : tie.Need-returns
 unfolding labelOf labelAnswer
-returns c = rw (sym (c .before .before .before .decode .ensures) ∙ c .before .number .given .1)
+returns c = rw (sym (c .before .before .before .decode .ensures .0) ∙ c .before .number .given .1)
 
 returns-2 : tie.Need-returns-2
 unfolding labelOf labelAnswer
-returns-2 c = rw (sym (c .before .before .before .before .decode .ensures) ∙ c .before .before .strap .given .1, c .label-of .ensures)
+returns-2 c = rw (sym (c .before .before .before .before .decode .ensures .0) ∙ c .before .before .strap .given .1, c .kind-of .ensures)
 
 pub label-spec : {M : Type 1} → statement M
 label-spec =
@@ -32,6 +32,6 @@ label-spec =
     decode-requires
     enum-known-number
     enum-known-strap
-    label-of-requires
+    kind-of-requires
     returns
     returns-2)

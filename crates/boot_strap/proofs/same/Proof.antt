@@ -11,8 +11,8 @@ decode-requires c κs = search needs
 enum-known-number : tie.Need-enum-known-number
 enum-known-number c = search needs
 
-not-same-requires : tie.Need-not-same-requires
-not-same-requires c κs = search needs
+same-refused-requires : tie.Need-same-refused-requires
+same-refused-requires c κs = search needs
 
 enum-known-s : tie.Need-enum-known-s
 enum-known-s c = search needs
@@ -23,37 +23,35 @@ decode-requires-2 c κs = search needs
 enum-known-number-2 : tie.Need-enum-known-number-2
 enum-known-number-2 c = search needs
 
-not-same-requires-2 : tie.Need-not-same-requires-2
-not-same-requires-2 c κs = search needs
+same-refused-requires-2 : tie.Need-same-refused-requires-2
+same-refused-requires-2 c κs = search needs
 
 enum-known-t : tie.Need-enum-known-t
 enum-known-t c = search needs
 
-values-of-requires : tie.Need-values-of-requires
-values-of-requires c κs = search needs
-
-values-of-requires-2 : tie.Need-values-of-requires-2
-values-of-requires-2 c κs = search needs
-
-equal-values-requires : tie.Need-equal-values-requires
-equal-values-requires c κs = search needs
+same-strap-requires : tie.Need-same-strap-requires
+same-strap-requires c κs = search needs
 
 returns : tie.Need-returns
 unfolding sameOf sameAnswer
-returns c = rw (sym (c .before .before .before .before .decode .ensures) ∙ c .before .before .number .given .1) (c .not-same .ensures)
+returns c = rw (sym (c .before .before .before .before .decode .ensures .0) ∙ c .before .before .number .given .1) (c .same-refused .ensures)
 
 returns-2 : tie.Need-returns-2
 unfolding sameOf sameAnswer
 returns-2 c =
     let c2 = c .before .before .before .before in
-    rw (sym (c2 .before .before .before .before .decode .ensures) ∙ c2 .before .before .s .given .1, sym (c2 .decode2 .ensures) ∙ c .before .before .number2 .given .1) (c .not-same2 .ensures)
+    let s = sym (c2 .before .before .before .before .decode .ensures .0) ∙ c2 .before .before .s .given .1 in
+    let t = sym (c2 .decode2 .ensures .0) ∙ c .before .before .number2 .given .1 in
+    rw (s, t) (c .same-refused2 .ensures)
 
 returns-3 : tie.Need-returns-3
 unfolding sameOf sameAnswer
 returns-3 c =
-    let ct = c .before .before .before .before in
+    let ct = c .before .before in
     let c2 = ct .before .before in
-    rw (sym (c2 .before .before .before .before .decode .ensures) ∙ c2 .before .before .s .given .1, sym (c2 .decode2 .ensures) ∙ ct .t .given .1, ← c .before .before .values-of .ensures, ← c .before .values-of2 .ensures, ← c .equal-values .ensures)
+    let s = sym (c2 .before .before .before .before .decode .ensures .0) ∙ c2 .before .before .s .given .1 in
+    let t = sym (c2 .decode2 .ensures .0) ∙ ct .t .given .1 in
+    rw (s, t, ← c .same-strap .ensures)
 
 pub same-spec : {M : Type 1} → statement M
 same-spec =
@@ -61,15 +59,13 @@ same-spec =
     (tie.spec
     decode-requires
     enum-known-number
-    not-same-requires
+    same-refused-requires
     enum-known-s
     decode-requires-2
     enum-known-number-2
-    not-same-requires-2
+    same-refused-requires-2
     enum-known-t
-    values-of-requires
-    values-of-requires-2
-    equal-values-requires
+    same-strap-requires
     returns
     returns-2
     returns-3)

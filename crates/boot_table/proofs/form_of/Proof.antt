@@ -8,8 +8,9 @@ use lib.ListN.{length}
 use Rattle.boot_table.specs.declared.Step.the-variants.{Section}
 use Rattle.boot_table.specs.Table.{stepAt, readOn}
 use Rattle.boot_table.specs.Form.{formOf}
+use Rattle.boot_table.specs.Walk.{tally}
 use Rattle.boot_table.proofs.StepLaws.{section-of, end-left}
-use Rattle.boot_table.proofs.FormLaws.{tally, form-long, form-cut, form-start, form-section, form-end, form-fault}
+use Rattle.boot_table.proofs.FormLaws.{form-long, form-cut, form-start, form-section, form-end, form-fault}
 use Rattle.boot_table.proofs.form_of.Statement.{statement}
 use Rattle.boot_table.proofs.form_of.Tie as tie
 

@@ -21,15 +21,15 @@ sub-room c = search needs
 returns-2 : tie.Need-returns-2
 returns-2 c = c .before .before .fault .ensures ∙ sym (step-cut _ _ (omega arith))
 
-word-at-requires : tie.Need-word-at-requires
-word-at-requires c κs = search needs
+header-at-requires : tie.Need-header-at-requires
+header-at-requires c κs = search needs
 
 cast-size : tie.Need-cast-size
 cast-size c = search needs
 
 returns-3 : tie.Need-returns-3
 returns-3 c =
-    let w = c .before .before .word-at in
+    let w = c .before .before .header-at in
     sym (end-step _ _ (omega arith) (sym (w .ensures) ∙ c .before .if3 .taken))
 
 add-fault : tie.Need-add-fault
@@ -41,29 +41,26 @@ fault-requires-2 c κs = search needs
 returns-4 : tie.Need-returns-4
 returns-4 c =
     let z = c .before .before in
-    c .fault2 .ensures ∙ sym (step-after _ _ _ (omega arith) (z .before .word-at .ensures) (z .if3 .taken) (omega arith))
+    c .fault2 .ensures ∙ sym (step-after _ _ _ (omega arith) (z .before .header-at .ensures) (z .if3 .taken) (omega arith))
 
-pad-count-requires : tie.Need-pad-count-requires
-pad-count-requires c κs = search needs
-
-add-padded : tie.Need-add-padded
-add-padded c = omega (arith, c .pad-count .ensures, pad-lt (c .before .before .word-at .result))
+padded-requires : tie.Need-padded-requires
+padded-requires c κs = search needs
 
 add-if5 : tie.Need-add-if5
-add-if5 c = omega (arith, c .pad-count .ensures, pad-lt (c .before .before .word-at .result))
+add-if5 c = omega (arith, c .padded .ensures, pad-lt (c .before .before .header-at .result))
 
 returns-5 : tie.Need-returns-5
 unfolding nextOf
 returns-5 c =
     let p = c .before in
     let w = p .before .before in
-    w .before .before .before .fault .ensures ∙ sym (step-short _ _ _ (omega arith) (w .word-at .ensures) (p .before .if3 .left) (omega (arith, p .pad-count .ensures)))
+    w .before .before .before .fault .ensures ∙ sym (step-short _ _ _ (omega arith) (w .header-at .ensures) (p .before .if3 .left) (omega (arith, p .padded .ensures)))
 
-add-word-at : tie.Need-add-word-at
-add-word-at c = search needs
+add-header-at : tie.Need-add-header-at
+add-header-at c = search needs
 
-word-at-requires-2 : tie.Need-word-at-requires-2
-word-at-requires-2 c κs = search needs
+header-at-requires-2 : tie.Need-header-at-requires-2
+header-at-requires-2 c κs = search needs
 
 cast-if6 : tie.Need-cast-if6
 cast-if6 c = search needs
@@ -80,7 +77,7 @@ returns-6 c =
     let a = c .before .before in
     let p = a .before .before in
     c .fault3 .ensures
-    ∙ sym (step-high _ _ _ (omega arith) (p .before .before .word-at .ensures) _ (p .before .if3 .left) (omega (arith, p .pad-count .ensures)) (a .word-at2 .ensures) (omega arith))
+    ∙ sym (step-high _ _ _ (omega arith) (p .before .before .header-at .ensures) _ (p .before .if3 .left) (omega (arith, p .padded .ensures)) (a .header-at2 .ensures) (omega arith))
 
 add-start : tie.Need-add-start
 add-start c = search needs
@@ -113,7 +110,7 @@ returns-7 c =
     let a = z .before .before .before in
     let p = a .before .before in
     c .fault4 .ensures
-    ∙ sym (step-pad _ _ _ (omega arith) (p .before .before .word-at .ensures) _ (p .before .if3 .left) (omega (arith, p .pad-count .ensures)) (a .word-at2 .ensures) (omega arith) (pads-found _ _ _ _ _ (p .pad-count .ensures) (z .all-zero .ensures) ∙ not-true _ (c .before .if7 .taken)))
+    ∙ sym (step-pad _ _ _ (omega arith) (p .before .before .header-at .ensures) _ (p .before .if3 .left) (omega (arith, p .padded .ensures)) (a .header-at2 .ensures) (omega arith) (pads-found _ _ _ _ _ (p .padded .ensures) (z .all-zero .ensures) ∙ not-true _ (c .before .if7 .taken)))
 
 returns-8 : tie.Need-returns-8
 returns-8 c =
@@ -122,14 +119,14 @@ returns-8 c =
     let p = a .before .before in
     sym (section-step _ _ (record {
       start-is = refl;
-      next-is = omega (arith, p .pad-count .ensures);
+      next-is = omega (arith, p .padded .ensures);
       within = omega arith;
       some = omega (arith, p .before .if3 .left);
       head = omega arith;
-      size-is = p .before .before .word-at .ensures;
-      address-is = a .word-at2 .ensures;
+      size-is = p .before .before .header-at .ensures;
+      address-is = a .header-at2 .ensures;
       top = omega arith;
-      zeros = pads-found _ _ _ _ _ (p .pad-count .ensures) (z .all-zero .ensures) ∙ not-false _ (c .if7 .left);
+      zeros = pads-found _ _ _ _ _ (p .padded .ensures) (z .all-zero .ensures) ∙ not-false _ (c .if7 .left);
     }))
 
 pub step-at-spec : {M : Type 1} → statement M
@@ -140,18 +137,17 @@ step-at-spec =
     returns
     sub-room
     returns-2
-    word-at-requires
+    header-at-requires
     cast-size
     returns-3
     add-fault
     fault-requires-2
     returns-4
-    pad-count-requires
-    add-padded
+    padded-requires
     add-if5
     returns-5
-    add-word-at
-    word-at-requires-2
+    add-header-at
+    header-at-requires-2
     cast-if6
     add-if6
     fault-requires-3

@@ -57,8 +57,8 @@ returns c =
     (omega arith, rw (← z) (l .loop .inv .is))
 
 -- a turn that finds a section
-step-is : (c : tie.After-known-told Inv-loop μ-loop) → stepAt (c .before .before .before .before .before .before .before .args .table .now) (c .before .before .before .before .loop .at)
-    ≡ Section (c .before .step .given .0 .0) (c .before .step .given .0 .1 .0) (c .before .step .given .0 .1 .1 .0) (c .before .step .given .0 .1 .1 .1 .0)
+step-is : (c : tie.After-known-told Inv-loop μ-loop) → let l = c .before .before .before .before in let s = c .before .step .given .0 in
+    stepAt (l .before .before .before .args .table .now) (l .loop .at) ≡ Section (s .0) (s .1 .0) (s .1 .1 .0) (s .1 .1 .1 .0)
 step-is c = sym (c .before .before .before .step-at .ensures) ∙ c .before .step .given .1
 
 sub-copy : tie.Need-sub-copy Inv-loop μ-loop
@@ -111,7 +111,8 @@ loop-again c =
     let whole = read-next t at (step-is k) (l .loop .inv .whole) in
     let room = read-room t next whole in
     let n : length (take (next - 4) (drop 4 t)) ≡ next - 4 = length-take-le (next - 4) (drop 4 t) (simp length-drop (omega arith)) in
-    let is = lent-back (l .loop .output) (take (next - at) (drop at t)) (c .before .before .copy .last .1 .0) to (omega arith) (c .before .before .copy .ensures)
+    let copied = c .before .before .copy in
+    let is = lent-back (l .loop .output) (take (next - at) (drop at t)) (copied .last .1 .0) to (omega arith) (copied .ensures)
     ∙ ap (λ (o : List ℕ). over o to (take (next - at) (drop at t))) (l .loop .inv .is)
     ∙ copy-section t d from at next to (l .loop .inv .low) (omega arith) (omega arith) (l .loop .inv .place) (omega (arith, s .pre)) in
     record {

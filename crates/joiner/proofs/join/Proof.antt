@@ -5,7 +5,7 @@ use mathlib.Core.List.{List}
 use native.Mathlib.Omega.{arith}
 use lib.ListN.{length}
 use Rattle.boot_table.specs.declared.Form.{Form}
-use Rattle.boot_table.specs.Form.{limit, formOf, WellFormed}
+use Rattle.boot_table.specs.Form.{tableLimit, formOf, WellFormed}
 use Rattle.boot_table.proofs.FormLaws.{form-well, well-long, well-few, well-form}
 use Rattle.joiner.specs.Join.{joinedLength}
 use Rattle.joiner.proofs.AnswerLaws.{first-refused, second-refused, join-long, output-short, join-done, output-kept, output-joined}
@@ -63,7 +63,8 @@ returns-3 c =
     let s = k .before .before .before .before .before .before .before .before .before in
     let f = k .before .before .before .before .before .form-of in
     let g = k .before .before .form-of2 in
-    let e = join-long (s .args .first .now) (s .args .second .now) (length (s .args .output .now)) _ (f .ensures) (k .before .before .before .if1 .left) _ (g .ensures) (k .if2 .left)
+    let e = join-long (s .args .first .now) (s .args .second .now) (length (s .args .output .now))
+    _ (f .ensures) (k .before .before .before .if1 .left) _ (g .ensures) (k .if2 .left)
     (omega (arith, c .before .if3 .taken)) in
     (c .refused3 .ensures ∙ e, output-kept _ _ _ _ e (λ z. omega arith))
 
@@ -77,12 +78,13 @@ returns-4 c =
     let s = k .before .before .before .before .before .before .before .before .before in
     let f = k .before .before .before .before .before .form-of in
     let g = k .before .before .form-of2 in
-    let e = output-short (s .args .first .now) (s .args .second .now) (length (s .args .output .now)) _ (f .ensures) (k .before .before .before .if1 .left) _ (g .ensures) (k .if2 .left)
+    let e = output-short (s .args .first .now) (s .args .second .now) (length (s .args .output .now))
+    _ (f .ensures) (k .before .before .before .if1 .left) _ (g .ensures) (k .if2 .left)
     (omega (arith, c .before .before .if3 .left)) (omega (arith, c .before .if4 .taken)) in
     (c .refused4 .ensures ∙ e, output-kept _ _ _ _ e (λ z. omega arith))
 
 -- a form counts no more sections and data bytes than a table has bytes
-few : (t : List ℕ) (f : Form) → f ≡ formOf t → WellFormed t → f .sections + f .bytes ≤ limit
+few : (t : List ℕ) (f : Form) → f ≡ formOf t → WellFormed t → f .sections + f .bytes ≤ tableLimit
 few t f e w = rw (e ∙ well-form t w) (omega (arith, well-few t w, w .short))
 
 add-sections : tie.Need-add-sections
@@ -110,7 +112,8 @@ returns-5 c =
     let s = k .before .before .before .before .before .before .before .before .before in
     let f = k .before .before .before .before .before .form-of in
     let g = k .before .before .form-of2 in
-    let e = join-done (s .args .first .now) (s .args .second .now) (length (s .args .output .now)) _ (f .ensures) (k .before .before .before .if1 .left) _ (g .ensures) (k .if2 .left)
+    let e = join-done (s .args .first .now) (s .args .second .now) (length (s .args .output .now))
+    _ (f .ensures) (k .before .before .before .if1 .left) _ (g .ensures) (k .if2 .left)
     (omega (arith, r .before .if3 .left)) (omega (arith, r .if4 .left)) in
     (e, w .write-join .ensures ∙ output-joined _ _ _ _ e refl)
 

@@ -7,7 +7,7 @@ use lib.ListN.{length, take, drop, length-take, length-drop}
 use Rattle.words.specs.Run.{over}
 use Rattle.words.proofs.RunLaws.{lent-back, part-to-end, over-front}
 use Rattle.boot_table.proofs.FormLaws.{well-long}
-use Rattle.joiner.specs.Join.{joinedLength}
+use Rattle.joiner.specs.Join.{joinedLength, sectionBytes}
 use Rattle.joiner.proofs.WriteLaws.{parts-joined}
 use borrow.Author.Needs.{needs}
 use Rattle.joiner.proofs.write_join.Statement.{statement}
@@ -42,7 +42,9 @@ copy-sections-requires-2 c κs =
     (search needs, omega (arith, sizes s))
 
 sub-zero : tie.Need-sub-zero
-sub-zero c = omega (arith, sizes (c .before .before .before .before .before .before .before .before .before .before .before .before .before .before .before .before))
+sub-zero c =
+    let k = c .before .before .before .before .before .before .before in
+    omega (arith, sizes (k .before .before .before .before .before .before .before .before .before))
 
 sub-copy-2 : tie.Need-sub-copy-2
 sub-copy-2 c = search needs
@@ -54,18 +56,22 @@ part-copy-end-2 : tie.Need-part-copy-end-2
 part-copy-end-2 c = search needs
 
 sub-copy-3 : tie.Need-sub-copy-3
-sub-copy-3 c = omega (arith, sizes (c .before .before .before .before .before .before .before .before .before .before .before .before .before .before .before .before .before))
+sub-copy-3 c =
+    let k = c .before .before .before .before .before .before .before .before in
+    omega (arith, sizes (k .before .before .before .before .before .before .before .before .before))
 
 part-copy-start-3 : tie.Need-part-copy-start-3
-part-copy-start-3 c = omega (arith, sizes (c .before .before .before .before .before .before .before .before .before .before .before .before .before .before .before .before .before))
+part-copy-start-3 c =
+    let k = c .before .before .before .before .before .before .before .before in
+    omega (arith, sizes (k .before .before .before .before .before .before .before .before .before))
 
 part-copy-end-3 : tie.Need-part-copy-end-3
 part-copy-end-3 c = search needs
 
 copy-requires-2 : tie.Need-copy-requires-2
 copy-requires-2 c κs =
-    simp (length-take, length-drop)
-    (omega (arith, sizes (c .before .before .before .before .before .before .before .before .before .before .before .before .before .before .before .before .before .before)))
+    let k = c .before .before .before .before .before .before .before .before .before in
+    simp (length-take, length-drop) (omega (arith, sizes (k .before .before .before .before .before .before .before .before .before)))
 
 same-length : tie.Need-same-length
 same-length c = search needs
@@ -88,10 +94,10 @@ returns c =
     lent-back (k2 .copy-sections2 .last .1 .0) last (k3 .copy2 .last .1 .0) end (omega (arith, sizes s)) (k3 .copy2 .ensures)
     ∙ ap (over (k2 .copy-sections2 .last .1 .0) end) (part-to-end b zero)
     ∙ ap (λ (o : List ℕ). over o end (drop zero b)) (k2 .copy-sections2 .ensures .1
-    ∙ ap (λ (o : List ℕ). over o middle (take (length b - 8) (drop 4 b))) (k1 .copy-sections .ensures .1
-    ∙ ap (λ (o : List ℕ). over o 4 (take (length a - 8) (drop 4 a))) (k0 .copy .ensures ∙ sym (over-front d (take 4 b)))))
-    ∙ parts-joined a b d (λ i. known .before .shared-slice-known .given i .fits) (λ i. known .shared-slice-known2 .given i .fits) (s .pre .0 .0) (s .pre .0 .1) (s .pre .1) middle end
-    (k1 .copy-sections .ensures .0) (k2 .copy-sections2 .ensures .0)
+    ∙ ap (λ (o : List ℕ). over o middle (sectionBytes b)) (k1 .copy-sections .ensures .1
+    ∙ ap (λ (o : List ℕ). over o 4 (sectionBytes a)) (k0 .copy .ensures ∙ sym (over-front d (take 4 b)))))
+    ∙ parts-joined a b d (λ i. known .before .shared-slice-known .given i .fits) (λ i. known .shared-slice-known2 .given i .fits)
+    (s .pre .0 .0) (s .pre .0 .1) (s .pre .1) middle end (k1 .copy-sections .ensures .0) (k2 .copy-sections2 .ensures .0)
 
 pub write-join-spec : {M : Type 1} → statement M
 write-join-spec =

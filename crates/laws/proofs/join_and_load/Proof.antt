@@ -1,11 +1,5 @@
 -- `laws::join_and_load`: demand 3, of what the four calls ensure.
-use Prim.Native.Nat.{_-_}
-use mathlib.Core.Path.{ap}
-use native.Mathlib.Omega.{arith}
-use native.Mathlib.Nat.{sub-zero}
-use lib.ListN.{length}
-use Rattle.joiner.specs.declared.Joined.{Joined}
-use Rattle.laws.proofs.CallLaws.{join-within, turn-ends}
+use Rattle.laws.proofs.CallLaws.{turn-calls, part-within, part-length}
 use borrow.Author.Needs.{needs}
 use Rattle.laws.proofs.join_and_load.Statement.{statement}
 use Rattle.laws.proofs.join_and_load.Tie as tie
@@ -13,22 +7,17 @@ use Rattle.laws.proofs.join_and_load.Tie as tie
 join-requires : tie.Need-join-requires
 join-requires c κs = search needs
 
-sub-load : tie.Need-sub-load
-sub-load c = search needs
+slice-reshare-prefix-load : tie.Need-slice-reshare-prefix-load
+slice-reshare-prefix-load c =
+    let j = c .before .before .join in
+    let a = c .before .before .before .before .before .before .before .before .before .before .args in
+    part-within (a .first .now) (a .second .now) (a .output .now) (j .result) (j .last .1 .1 .0) (j .ensures .0) (j .kept .1 .1 .0)
 
-part-load-start : tie.Need-part-load-start
-part-load-start c = search needs
-
-part-load-end : tie.Need-part-load-end
-part-load-end c =
+slice-aggregate-load : tie.Need-slice-aggregate-load
+slice-aggregate-load c =
     let j = c .before .before .before .join in
     let a = c .before .before .before .before .before .before .before .before .before .before .before .args in
-    omega (
-      arith,
-      ap (λ (r : Joined). r .length) (j .ensures .0),
-      join-within (a .first .now) (a .second .now) (length (a .output .now)),
-      j .kept .1 .1 .0,
-    )
+    part-length (a .first .now) (a .second .now) (a .output .now) (j .result) (j .last .1 .1 .0) (j .ensures .0) (j .kept .1 .1 .0)
 
 load-requires : tie.Need-load-requires
 load-requires c κs = search needs
@@ -50,27 +39,25 @@ same-length-3 c = search needs
 
 returns : tie.Need-returns
 returns c =
-    let k = c .before .before .before .before .before .before .before .before .before .before in
-    let known = k .before .before .before .before .before .before .before .before .before .before .before in
-    let j = k .before .before .before .before .before .before .join in
-    let f = c .before .before .before .before .before .before .load2 in
     let g = c .before .before .load3 in
+    let f = c .before .before .before .before .before .before .load2 in
+    let k = c .before .before .before .before .before .before .before .before .before .before in
+    let w = k .load in
+    let j = k .before .before .before .before .before .join in
+    let known = k .before .before .before .before .before .before .before .before .before .before in
     let a = known .before .before .before .args in
-    turn-ends (a .map .now) (a .first .now) (a .second .now) (a .output .now) (a .one .now) (a .two .now)
+    turn-calls (a .map .now) (a .first .now) (a .second .now) (a .output .now) (a .join-memory .now) (a .turn-memory .now)
     (λ i. known .before .shared-slice-known2 .given i .fits) (λ i. known .shared-slice-known3 .given i .fits)
-    (j .result) (j .last .1 .1 .0) (k .load .result) (f .result) (g .result) (k .load .last .1 .1 .0) (f .last .1 .1 .0) (g .last .1 .1 .0)
-    (j .ensures .0) (j .ensures .1)
-    (rw sub-zero at (k .load .ensures .0)) (rw sub-zero at (k .load .ensures .1))
-    (f .ensures .0) (f .ensures .1) (g .ensures .0) (g .ensures .1)
+    (j .result) (j .last .1 .1 .0) (w .result) (f .result) (g .result) (w .last .1 .1 .0) (f .last .1 .1 .0) (g .last .1 .1 .0)
+    (j .ensures .0) (j .ensures .1) (w .ensures .0) (w .ensures .1) (f .ensures .0) (f .ensures .1) (g .ensures .0) (g .ensures .1)
 
 pub join-and-load-spec : {M : Type 1} → statement M
 join-and-load-spec =
     tie.close
     (tie.spec
     join-requires
-    sub-load
-    part-load-start
-    part-load-end
+    slice-reshare-prefix-load
+    slice-aggregate-load
     load-requires
     load-requires-2
     load-requires-3

@@ -1,5 +1,5 @@
 -- `laws::load_swapped`: demand 3, of what the two calls ensure.
-use Rattle.laws.proofs.CallLaws.{swap-ends}
+use Rattle.laws.proofs.CallLaws.{swap-calls}
 use borrow.Author.Needs.{needs}
 use Rattle.laws.proofs.load_swapped.Statement.{statement}
 use Rattle.laws.proofs.load_swapped.Tie as tie
@@ -18,11 +18,12 @@ same-length-2 c = search needs
 
 returns : tie.Need-returns
 returns c =
-    let known = c .before .before .before .before .before .before .before .before .before .before .before in
-    let a = known .before .before .args in
     let p = c .before .before .before .before .before .before .load in
     let q = c .before .before .load2 in
-    λ x y. swap-ends (a .map .now) (a .table .now) (a .swapped .now) (a .one .now) (a .two .now) x y (λ i. known .shared-slice-known2 .given i .fits)
+    let known = c .before .before .before .before .before .before .before .before .before .before .before in
+    let a = known .before .before .args in
+    swap-calls (a .map .now) (a .original .now) (a .swapped .now) (a .original-memory .now) (a .swapped-memory .now)
+    (λ i. known .shared-slice-known2 .given i .fits)
     (p .result) (q .result) (p .last .1 .1 .0) (q .last .1 .1 .0) (p .ensures .0) (p .ensures .1) (q .ensures .0) (q .ensures .1)
 
 pub load-swapped-spec : {M : Type 1} → statement M

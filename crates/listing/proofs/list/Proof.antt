@@ -3,8 +3,7 @@ use Prim.Native.Nat.{_+_, _≤_}
 use native.Mathlib.Omega.{arith}
 use borrow.Author.Needs.{needs}
 use lib.ListN.{length}
-use Rattle.words.specs.Word.{wordAt}
-use Rattle.boot_table.specs.Table.{reading}
+use Rattle.boot_table.specs.Table.{entryOf, reading}
 use Rattle.boot_table.proofs.FormLaws.{well-long}
 use Rattle.boot_table.specs.Form.{WellFormed}
 use Rattle.boot_table.specs.declared.Form.{Form}
@@ -92,21 +91,21 @@ module _ (c : tie.Else4) where
   enough : textBound (given .args .table .now) ≤ length (given .args .buffer .now)
   enough = omega (arith, bound-within (given .args .table .now) short)
 
-word-at-requires : tie.Need-word-at-requires
-word-at-requires c κs = omega (arith, well-long _ (well (c .before)))
+entry-of-requires : tie.Need-entry-of-requires
+entry-of-requires c κs = omega (arith, well-long _ (well (c .before)))
 
 put-entry-requires : tie.Need-put-entry-requires
-put-entry-requires c κs = omega (arith, length-entry (c .word-at .result), room (c .before .before))
+put-entry-requires c κs = omega (arith, length-entry (c .entry-of .result), room (c .before .before))
 
 put-sections-requires : tie.Need-put-sections-requires
 put-sections-requires c κs =
     let i = c .before .before .before .before .before .before in
-    (well i, omega (arith, length-entry (c .before .before .before .before .word-at .result), room i))
+    (well i, omega (arith, length-entry (c .before .before .before .before .entry-of .result), room i))
 
 put-end-requires : tie.Need-put-end-requires
 put-end-requires c κs =
     let a = c .before .before .before .before .before .before .before .before in
-    rw length-end (omega (arith, length-entry (a .word-at .result), room (a .before .before)))
+    rw length-end (omega (arith, length-entry (a .entry-of .result), room (a .before .before)))
 
 same-length-3 : tie.Need-same-length-3
 same-length-3 c = search needs
@@ -122,9 +121,9 @@ returns-5 c =
     let d = given i .args .buffer .now in
     let e = text-listed t (short i) (form i) (i .before .before .form-of .ensures) (i .if4 .left) in
     list-put t d (enough i) (k3 .put-end .result) (k3 .put-end .last .0) (rw e
-    (put-three d 0 (entryLine (wordAt t 0)) (sectionLines (reading t .sections)) (endLine (form i .sections) (form i .bytes))
+    (put-three d 0 (entryLine (entryOf t)) (sectionLines (reading t .sections)) (endLine (form i .sections) (form i .bytes))
     (k1 .put-entry .last .0) (k2 .put-sections .last .1 .0) (k3 .put-end .last .0) (k1 .put-entry .result) (k2 .put-sections .result) (k3 .put-end .result)
-    (rw (← e) (omega (arith, text-bound t, enough i))) (rw (a .word-at .ensures) at (k1 .put-entry .ensures)) (k2 .put-sections .ensures) (k3 .put-end .ensures)))
+    (rw (← e) (omega (arith, text-bound t, enough i))) (rw (a .entry-of .ensures) at (k1 .put-entry .ensures)) (k2 .put-sections .ensures) (k3 .put-end .ensures)))
 
 pub list-spec : {M : Type 1} → statement M
 list-spec =
@@ -143,7 +142,7 @@ list-spec =
     put-refused-requires
     same-length-2
     returns-4
-    word-at-requires
+    entry-of-requires
     put-entry-requires
     put-sections-requires
     put-end-requires

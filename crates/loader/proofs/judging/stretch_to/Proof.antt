@@ -1,0 +1,21 @@
+-- `loader::judging::stretch_to`: the known stretch goes on, or one begins at the address, where nothing is known yet.
+use native.Mathlib.Omega.{arith}
+use borrow.Author.Needs.{needs}
+use Rattle.loader.proofs.judging.stretch_to.Statement.{statement}
+use Rattle.loader.proofs.judging.stretch_to.Tie as tie
+
+lengthen-requires : tie.Need-lengthen-requires
+lengthen-requires c κs = search needs
+
+returns : tie.Need-returns
+returns c = search needs
+
+lengthen-requires-2 : tie.Need-lengthen-requires-2
+lengthen-requires-2 c κs =
+    (c .before .before .before .pre .0, record { opens = λ x l u. absurd (omega arith); clears = λ x l u. absurd (omega arith) })
+
+returns-2 : tie.Need-returns-2
+returns-2 c = search needs
+
+pub stretch-to-spec : {M : Type 1} → statement M
+stretch-to-spec = tie.close (tie.spec lengthen-requires returns lengthen-requires-2 returns-2)
