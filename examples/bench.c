@@ -36,6 +36,16 @@ static void print_table_answer(const char *what, const uint64_t answer[7])
            answer[5], answer[6]);
 }
 
+static void print_bytes(const char *what, const uint8_t *bytes, size_t len)
+{
+    size_t i;
+
+    printf("%s:", what);
+    for (i = 0; i < len; i++)
+        printf(" %02X", (unsigned)bytes[i]);
+    printf("\n");
+}
+
 static void judge(const char *what, const uint8_t *table, size_t table_len)
 {
     uint64_t answer[7];
@@ -49,27 +59,25 @@ static void load(const char *what, const uint8_t *table, size_t table_len)
 {
     uint64_t answer[7];
     uint8_t memory[16];
-    size_t i;
 
     memset(memory, 0, sizeof memory);
     tuneharbor_load(map, sizeof map, table, table_len, memory, sizeof memory, answer);
     print_table_answer(what, answer);
-    printf("memory:");
-    for (i = 0; i < sizeof memory; i++)
-        printf(" %02X", (unsigned)memory[i]);
-    printf("\n");
+    print_bytes("memory", memory, sizeof memory);
 }
 
-/* Joins two tables of 20 bytes, and answers the join's length. */
-static size_t join(const char *what, const uint8_t first[20],
-                   const uint8_t second[20], uint8_t output[32])
+/* Joins two tables into 32 bytes, prints as many as the join has, and answers
+ * how many these are. */
+static size_t join(const char *what, const uint8_t *first, size_t first_len,
+                   const uint8_t *second, size_t second_len, uint8_t output[32])
 {
     uint64_t answer[5];
 
-    tuneharbor_join(first, 20, second, 20, output, 32, answer);
+    tuneharbor_join(first, first_len, second, second_len, output, 32, answer);
     printf("%s: number %" PRIu64 ", place %" PRIu64 ", table %" PRIu64
            ", length %" PRIu64 ", sections %" PRIu64 "\n",
            what, answer[0], answer[1], answer[2], answer[3], answer[4]);
+    print_bytes("output", output, (size_t)answer[3]);
     return (size_t)answer[3];
 }
 
@@ -88,16 +96,27 @@ int main(void)
     judge("judge Q", table_q, sizeof table_q);
     load("load P", table_p, sizeof table_p);
 
-    length = join("join P and Q", table_p, table_q, output);
+    length = join("join P and Q", table_p, sizeof table_p, table_q,
+                  sizeof table_q, output);
     load("load P and Q", output, length);
 
-    length = join("join Q and P", table_q, table_p, output);
+    length = join("join Q and P", table_q, sizeof table_q, table_p,
+                  sizeof table_p, output);
     load("load Q and P", output, length);
 
+    /* A pad may hold anything: the answers are P's, and the join keeps the pad. */
     memcpy(padded, table_p, sizeof padded);
     padded[15] = 0x01;
     judge("judge P with pad byte 01", padded, sizeof padded);
-    join("join Q and P with pad byte 01", table_q, padded, output);
+    join("join Q and P with pad byte 01", table_q, sizeof table_q, padded,
+         sizeof padded, output);
     load("load P with pad byte 01", padded, sizeof padded);
+
+    /* But it has to be there: without it and the zero word P is cut short. */
+    judge("judge P cut before its pad", table_p, 15);
+    join("join Q and P cut before its pad", table_q, sizeof table_q, table_p,
+         15, output);
+    print_bytes("output as it was", output, sizeof output);
+    load("load P cut before its pad", table_p, 15);
     return 0;
 }

@@ -30,7 +30,7 @@ enum {
     TUNEHARBOR_MEMORY_LENGTH = 3,    /* the memory's length differs from the permitted sum */
     TUNEHARBOR_TABLE_LONG = 4,       /* the boot table is over 16,777,216 bytes */
     TUNEHARBOR_TABLE_CUT = 5,        /* the boot table is cut short */
-    TUNEHARBOR_PAD_NOT_ZERO = 6,     /* a pad byte is not zero */
+    /* 6 is withdrawn and not used again */
     TUNEHARBOR_BYTES_AFTER = 7,      /* bytes stand after the zero word */
     TUNEHARBOR_PAST_TOP = 8,         /* address plus size is over 2^32 */
     TUNEHARBOR_NOT_OPEN = 9,         /* an address is not open */

@@ -110,23 +110,47 @@ pub fn map(records: &[(u8, u32, u32)]) -> Vec<u8> {
     bytes
 }
 
+/// How many pads stand after data of a size.
+fn pads_after(size: usize) -> usize {
+    size.next_multiple_of(4) - size
+}
+
+/// Zero pads for data of a size.
+fn zero_pads(size: usize) -> &'static [u8] {
+    &[0; 3][..pads_after(size)]
+}
+
 /// A section: size word, address word, data, zero pads.
 pub fn section(address: u32, data: &[u8]) -> Vec<u8> {
-    let mut bytes = Vec::with_capacity(data.len() + 12);
+    padded_section(address, data, zero_pads(data.len()))
+}
+
+/// A section: size word, address word, data, and pads of any contents.
+pub fn padded_section(address: u32, data: &[u8], pads: &[u8]) -> Vec<u8> {
+    assert_eq!(pads.len(), pads_after(data.len()), "the count of pads");
+    let mut bytes = Vec::with_capacity(8 + data.len() + pads.len());
     bytes.extend((data.len() as u32).to_be_bytes());
     bytes.extend(address.to_be_bytes());
     bytes.extend(data);
-    while bytes.len() % 4 != 0 {
-        bytes.push(0);
-    }
+    bytes.extend(pads);
     bytes
 }
 
-/// A boot table from its entry and the address and data of each section.
+/// A boot table from its entry and the address and data of each section, with
+/// zero pads.
 pub fn table(entry: u32, sections: &[(u32, &[u8])]) -> Vec<u8> {
+    let list: Vec<(u32, &[u8], &[u8])> = sections
+        .iter()
+        .map(|(address, data)| (*address, *data, zero_pads(data.len())))
+        .collect();
+    padded_table(entry, &list)
+}
+
+/// A boot table from its entry and the address, data and pads of each section.
+pub fn padded_table(entry: u32, sections: &[(u32, &[u8], &[u8])]) -> Vec<u8> {
     let mut bytes = entry.to_be_bytes().to_vec();
-    for (address, data) in sections {
-        bytes.extend(section(*address, data));
+    for (address, data, pads) in sections {
+        bytes.extend(padded_section(*address, data, pads));
     }
     bytes.extend([0; 4]);
     bytes
@@ -254,6 +278,16 @@ pub fn sound_map(numbers: &mut Numbers) -> Regions {
     }
 }
 
+/// A sound map whose memory can be lent.
+pub fn lendable_map(numbers: &mut Numbers) -> Regions {
+    loop {
+        let regions = sound_map(numbers);
+        if regions.memory_size() < 1 << 16 {
+            return regions;
+        }
+    }
+}
+
 /// One damage to a map.
 fn damage_map(numbers: &mut Numbers, regions: &mut Regions) {
     let map = &mut regions.map;
@@ -333,20 +367,88 @@ fn damage_map(numbers: &mut Numbers, regions: &mut Regions) {
 
 // Boot tables.
 
-/// One section of a generated table, with zero pads.
+/// One section of a generated table.
 #[derive(Clone, Debug, PartialEq, Eq)]
 pub struct Section {
     pub address: u32,
     pub data: Vec<u8>,
+    pub pads: Vec<u8>,
+}
+
+impl Section {
+    /// A section with data and pads of any contents.
+    fn of_size(numbers: &mut Numbers, address: u32, size: usize) -> Self {
+        Section {
+            address,
+            data: numbers.bytes(size),
+            pads: pads(numbers, pads_after(size)),
+        }
+    }
+}
+
+/// Pads: mostly any bytes, at times all zero, all 0xFF, or zero but for one.
+pub fn pads(numbers: &mut Numbers, count: usize) -> Vec<u8> {
+    match numbers.below(8) {
+        0 => vec![0; count],
+        1 => vec![0xFF; count],
+        2 if count > 0 => {
+            let mut pads = vec![0; count];
+            pads[numbers.index(count)] = numbers.from_to(1, 255) as u8;
+            pads
+        }
+        _ => numbers.bytes(count),
+    }
 }
 
 /// The bytes of a table of sections.
 pub fn table_of(entry: u32, sections: &[Section]) -> Vec<u8> {
-    let list: Vec<(u32, &[u8])> = sections
+    let list: Vec<(u32, &[u8], &[u8])> = sections
         .iter()
-        .map(|section| (section.address, &section.data[..]))
+        .map(|section| (section.address, &section.data[..], &section.pads[..]))
         .collect();
-    table(entry, &list)
+    padded_table(entry, &list)
+}
+
+/// The offset of each size word in a table of sections.
+fn offsets(sections: &[Section]) -> Vec<usize> {
+    let mut list = Vec::new();
+    let mut at = 4;
+    for section in sections {
+        list.push(at);
+        at += 8 + section.data.len() + section.pads.len();
+    }
+    list
+}
+
+/// The offset of each pad byte in a table of sections.
+pub fn pad_offsets(sections: &[Section]) -> Vec<usize> {
+    let mut list = Vec::new();
+    for (at, section) in offsets(sections).into_iter().zip(sections) {
+        let data_end = at + 8 + section.data.len();
+        list.extend(data_end..data_end + section.pads.len());
+    }
+    list
+}
+
+/// Gives pads of a table of sections other contents, and changes no other byte:
+/// one pad, or all of them to zero, to 0xFF or to any bytes.
+pub fn change_pads(numbers: &mut Numbers, table: &mut [u8], sections: &[Section]) {
+    let offsets = pad_offsets(sections);
+    if offsets.is_empty() {
+        return;
+    }
+    let manner = numbers.below(4);
+    if manner == 0 {
+        table[numbers.pick(&offsets)] ^= numbers.from_to(1, 255) as u8;
+        return;
+    }
+    for at in offsets {
+        table[at] = match manner {
+            1 => 0,
+            2 => 0xFF,
+            _ => numbers.byte(),
+        };
+    }
 }
 
 /// A section whose addresses are in one permitted record, or `None` where the
@@ -358,10 +460,8 @@ pub fn inside(numbers: &mut Numbers, regions: &Regions) -> Option<Section> {
     let (first, length) = numbers.pick(&regions.runs);
     let skip = numbers.below(length.min(64));
     let size = numbers.from_to(1, (length - skip).min(24));
-    Some(Section {
-        address: (first + skip) as u32,
-        data: numbers.bytes(size as usize),
-    })
+    let address = (first + skip) as u32;
+    Some(Section::of_size(numbers, address, size as usize))
 }
 
 /// A section that may lie anywhere but does not run past the top.
@@ -387,10 +487,7 @@ fn anywhere(numbers: &mut Numbers, regions: &Regions, before: Option<&Section>) 
     };
     let address = address.min(TOP - 1);
     let size = size.min(TOP - address);
-    Section {
-        address: address as u32,
-        data: numbers.bytes(size as usize),
-    }
+    Section::of_size(numbers, address as u32, size as usize)
 }
 
 /// The sections of a well-formed table: most lie in the map, some lie anywhere.
@@ -424,18 +521,13 @@ pub fn entry(numbers: &mut Numbers, regions: &Regions) -> u32 {
 
 /// One damage to a boot table made of sections.
 fn damage_table(numbers: &mut Numbers, bytes: &mut Vec<u8>, sections: &[Section]) {
-    // The offset of each size word and the size it has.
-    let mut offsets = Vec::new();
-    let mut at = 4;
-    for section in sections {
-        offsets.push((at, section.data.len() as u32));
-        at += 8 + section.data.len().div_ceil(4) * 4;
-    }
-    if !offsets.is_empty() && numbers.once_in(2) {
-        let (at, size) = numbers.pick(&offsets);
+    if !sections.is_empty() && numbers.once_in(2) {
+        let index = numbers.index(sections.len());
+        let at = offsets(sections)[index];
+        let size = sections[index].data.len() as u32;
         let data_end = at + 8 + size as usize;
-        let end = at + 8 + (size as usize).div_ceil(4) * 4;
-        match numbers.below(4) {
+        let end = data_end + sections[index].pads.len();
+        match numbers.below(5) {
             0 => {
                 let value = numbers.pick(&[
                     0,
@@ -456,13 +548,19 @@ fn damage_table(numbers: &mut Numbers, bytes: &mut Vec<u8>, sections: &[Section]
                 let value = numbers.pick(&[0, 0xFFFF_FFFF, edge, edge.wrapping_add(1)]);
                 set_word(bytes, at + 4, value);
             }
-            _ if data_end < end => {
+            // A pad byte is changed, which alone is no damage; at times the
+            // address is the highest as well, past which two bytes run.
+            2 if data_end < end => {
                 let spot = data_end + numbers.index(end - data_end);
-                bytes[spot] = numbers.pick(&[1, 2, 128, 255]);
-                // Two faults in one section: the address comes first.
-                if numbers.once_in(4) {
-                    set_word(bytes, at + 4, 0u32.wrapping_sub(size) | 1);
+                bytes[spot] = numbers.pick(&[0, 1, 2, 128, 255]);
+                if numbers.once_in(2) {
+                    set_word(bytes, at + 4, 0xFFFF_FFFF);
                 }
+            }
+            // The data is whole, and the table is cut where pads should stand.
+            3 if data_end < end => {
+                let kept = data_end + numbers.index(end - data_end);
+                bytes.truncate(kept);
             }
             _ => {
                 let kept = numbers.from_to(at as u64, end as u64) as usize;

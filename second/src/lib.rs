@@ -1,4 +1,4 @@
-//! Document 01 read once more, the calls into the proved library, the
+//! The papers read once more, the calls into the proved library, the
 //! generated cases on which the tests compare the two, and a quick peer that
 //! the benchmark measures the library against.
 

@@ -1,7 +1,7 @@
-//! Document 01 read once more in plain Rust: the map, the boot table, judging,
-//! loading, the join, the configuration table, the strap value and the
-//! lister's text. Addresses are looked at one by one and bytes are copied one
-//! by one; nothing here is quick.
+//! Document 01, as request 2 of document 02 mends it, read once more in plain
+//! Rust: the map, the boot table, judging, loading, the join, the configuration
+//! table, the strap value and the lister's text. Addresses are looked at one by
+//! one and bytes are copied one by one; nothing here is quick.
 
 /// Most bytes in a map: 64 records of 12.
 pub const MAP_LIMIT: usize = 768;
@@ -216,12 +216,14 @@ pub fn map(map: &[u8]) -> MapAnswer {
 
 // The boot table.
 
-/// One section: the offset of its size word, its address and its data.
+/// One section: the offset of its size word, its address, its data and its
+/// pads. The pads may hold anything; only the join has a use for them.
 #[derive(Clone, Copy, Debug, PartialEq, Eq)]
 pub struct Section<'a> {
     pub offset: usize,
     pub address: u64,
     pub data: &'a [u8],
+    pub pads: &'a [u8],
 }
 
 /// A well-formed table.
@@ -287,16 +289,14 @@ pub fn read_table(table: &[u8]) -> Result<Table<'_>, Refusal> {
         if address + size > TOP {
             return refuse(8, at);
         }
-        // 6: a pad byte is not zero.
+        // What the pads hold is not judged.
         let data_end = at + 8 + size as usize;
         let end = at + whole as usize;
-        if table[data_end..end].iter().any(|pad| *pad != 0) {
-            return refuse(6, at);
-        }
         sections.push(Section {
             offset: at,
             address,
             data: &table[at + 8..data_end],
+            pads: &table[data_end..end],
         });
         at = end;
     }
@@ -390,7 +390,8 @@ fn put_word(bytes: &mut Vec<u8>, value: u64) {
 }
 
 /// The join: first table, second table, 10, 11. The result is the second's
-/// entry, the first's sections, the second's sections and the zero word.
+/// entry, the first's sections, the second's sections and the zero word. A
+/// section keeps its pads as they stand.
 pub fn join(first: &[u8], second: &[u8], output: &mut [u8]) -> JoinAnswer {
     let table_refused = |refusal: Refusal, table: u64| JoinAnswer {
         number: refusal.number,
@@ -419,11 +420,10 @@ pub fn join(first: &[u8], second: &[u8], output: &mut [u8]) -> JoinAnswer {
     let mut result = Vec::new();
     put_word(&mut result, two.entry);
     for section in one.sections.iter().chain(&two.sections) {
-        let size = section.data.len() as u64;
-        put_word(&mut result, size);
+        put_word(&mut result, section.data.len() as u64);
         put_word(&mut result, section.address);
         result.extend(section.data);
-        result.resize(result.len() + pad_count(size) as usize, 0);
+        result.extend(section.pads);
     }
     put_word(&mut result, 0);
     // Output bytes past the result are not touched.

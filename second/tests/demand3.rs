@@ -10,13 +10,16 @@ const CASES: u64 = 60_000;
 
 /// A sound map whose memory can be lent.
 fn regions(numbers: &mut Numbers) -> Regions {
-    loop {
-        let regions = cases::sound_map(numbers);
-        if regions.memory_size() < 1 << 16 {
-            assert_eq!(calls::map(&regions.map).bytes, regions.memory_size());
-            return regions;
-        }
-    }
+    let regions = cases::lendable_map(numbers);
+    assert_eq!(calls::map(&regions.map).bytes, regions.memory_size());
+    regions
+}
+
+/// Whether any pad of the sections is not zero.
+fn has_nonzero_pads(sections: &[Section]) -> bool {
+    sections
+        .iter()
+        .any(|section| section.pads.iter().any(|pad| *pad != 0))
 }
 
 /// A well-formed table, its entry and its sections.
@@ -57,16 +60,18 @@ fn joining_means_loading_in_turn() {
     let mut numbers = Numbers::new(cases::seed(), 30);
     let mut accepted = 0;
     let mut refused = [0; 2];
+    let mut padded = 0;
     for _ in 0..CASES {
         let regions = regions(&mut numbers);
         let a = made(&mut numbers, &regions);
         let b = made(&mut numbers, &regions);
 
-        // The join's bytes, length and count.
+        // The join's bytes, pads as they stood, its length and its count.
         let (join, sections) = join(&mut numbers, &a.bytes, &b.bytes);
         let all = [&a.sections[..], &b.sections].concat();
         assert_eq!(join, cases::table_of(b.entry, &all));
         assert_eq!(sections, all.len() as u64);
+        padded += u64::from(has_nonzero_pads(&a.sections) && has_nonzero_pads(&b.sections));
 
         // Loading the join and loading A start from the same memory; loading B
         // gets the memory that loading A left.
@@ -95,15 +100,18 @@ fn joining_means_loading_in_turn() {
             refused[usize::from(one.number == 0)] += 1;
         }
     }
-    // Memory changed, the first was refused, only the second was refused.
-    println!("in turn: {accepted} accepted, {refused:?} refused");
+    // Memory changed, the first was refused, only the second was refused, both
+    // had pads that were not zero.
+    println!("in turn: {accepted} accepted, {refused:?} refused, {padded} with pads");
     assert!(accepted >= CASES / 10);
     assert!(refused[0] >= CASES / 100 && refused[1] >= CASES / 100);
+    assert!(padded >= CASES / 2);
 }
 
 #[test]
 fn the_join_of_three_tables() {
     let mut numbers = Numbers::new(cases::seed(), 31);
+    let mut padded = 0;
     for _ in 0..CASES {
         let regions = regions(&mut numbers);
         let a = made(&mut numbers, &regions);
@@ -118,7 +126,12 @@ fn the_join_of_three_tables() {
         let all = [&a.sections[..], &b.sections, &c.sections].concat();
         assert_eq!(left, cases::table_of(c.entry, &all));
         assert_eq!(left_sections, all.len() as u64);
+        let three = [&a, &b, &c].map(|table| has_nonzero_pads(&table.sections));
+        padded += u64::from(three == [true; 3]);
     }
+    // All three had pads that were not zero.
+    println!("three: {padded} with pads");
+    assert!(padded >= CASES / 2);
 }
 
 /// The addresses that both sections carry, and whether their bytes are equal
@@ -177,6 +190,8 @@ fn the_swap_of_two_sections() {
     let mut numbers = Numbers::new(cases::seed(), 32);
     // Apart; sharing and agreeing; sharing and differing.
     let mut seen = [0; 3];
+    // Both sections had pads, and not the same.
+    let mut other_pads = 0;
     for _ in 0..CASES {
         let regions = regions(&mut numbers);
         let Some([one, two]) = two_sections(&mut numbers, &regions) else {
@@ -184,6 +199,9 @@ fn the_swap_of_two_sections() {
         };
         let entry = cases::entry(&mut numbers, &regions);
         let (count, agree) = shared(&one, &two);
+        let padded = !one.pads.is_empty() && !two.pads.is_empty();
+        let pads_differ = padded && one.pads != two.pads;
+        // The sections change places whole, pads included.
         let table = cases::table_of(entry, &[one.clone(), two.clone()]);
         let swapped = cases::table_of(entry, &[two, one]);
         let before = numbers.bytes(regions.memory_size() as usize);
@@ -200,9 +218,11 @@ fn the_swap_of_two_sections() {
             (_, true) => 1,
             (_, false) => 2,
         }] += 1;
+        other_pads += u64::from(pads_differ);
     }
-    println!("swap: {seen:?}");
+    println!("swap: {seen:?}, {other_pads} with other pads");
     assert!(seen.iter().all(|times| *times >= CASES / 50), "{seen:?}");
+    assert!(other_pads >= CASES / 4);
 }
 
 #[test]

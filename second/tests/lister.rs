@@ -1,7 +1,7 @@
 //! The lister run as a program, its whole output compared with text written by
 //! hand or with the reference's text.
 
-use second::cases::{self, section, table, Numbers};
+use second::cases::{self, padded_section, padded_table, section, table, Numbers};
 use second::reference;
 use std::io::{ErrorKind, Read, Write};
 use std::process::{Command, Stdio};
@@ -78,6 +78,53 @@ fn prints_as_reference(input: &[u8]) {
 #[test]
 fn table_p() {
     prints(&P, "entry 00800000\nsection 00800002 3\nend 1 3\n");
+}
+
+#[test]
+fn table_p_with_its_pad_byte_01() {
+    let mut bytes = P;
+    bytes[15] = 1;
+    prints(&bytes, "entry 00800000\nsection 00800002 3\nend 1 3\n");
+}
+
+#[test]
+fn pads_are_not_printed() {
+    let text = "entry 00000007\nsection 00000010 1\nsection 00000020 2\n\
+                section 00000030 3\nsection 00000040 4\nend 4 10\n";
+    for pads in [
+        [0; 3],
+        [0xFF; 3],
+        *b"\n0\n",
+        [1, 0, 0],
+        [0, 1, 0],
+        [0, 0, 1],
+    ] {
+        let input = padded_table(
+            7,
+            &[
+                (0x10, &[1], &pads),
+                (0x20, &[1, 2], &pads[1..]),
+                (0x30, &[1, 2, 3], &pads[2..]),
+                (0x40, &[1, 2, 3, 4], &[]),
+            ],
+        );
+        prints(&input, text);
+    }
+}
+
+#[test]
+fn pads_cut_short() {
+    // Size 1 asks for three pads, which stand at 13 to 15.
+    for pads in [[0; 3], [0xFF; 3]] {
+        let input = padded_table(7, &[(0x10, &[1], &pads)]);
+        for there in 0..3 {
+            prints(&input[..13 + there], "refused 5 at 4\n");
+        }
+        // All pads are there, and the zero word is missing or cut.
+        for there in 0..4 {
+            prints(&input[..16 + there], "refused 5 at 16\n");
+        }
+    }
 }
 
 #[test]
@@ -158,20 +205,20 @@ fn each_refusal_of_form() {
         };
         prints(&P[..length], &format!("refused 5 at {place}\n"));
     }
-    let mut pad = P;
-    pad[15] = 1;
-    prints(&pad, "refused 6 at 4\n");
     prints(&[&P[..], &[0]].concat(), "refused 7 at 20\n");
     prints(&[&P[..], &P[..]].concat(), "refused 7 at 20\n");
     let over = table(0, &[(0xFFFF_FFFF, &[1, 2])]);
     prints(&over, "refused 8 at 4\n");
+    let over = padded_table(0, &[(0xFFFF_FFFF, &[1, 2], &[0xFF, 1])]);
+    prints(&over, "refused 8 at 4\n");
     let mut size = P;
     size[4..8].fill(0xFF);
     prints(&size, "refused 5 at 4\n");
-    // A refusal is the only line, however many sections stand before it.
+    // A refusal is the only line, however many sections stand before it and
+    // whatever their pads hold.
     let mut late = vec![0; 4];
     for i in 0..5000u32 {
-        late.extend(section(i, &[1]));
+        late.extend(padded_section(i, &[1], &[0xFF, i as u8, 0]));
     }
     prints(&late, "refused 5 at 60004\n");
     late.extend([0; 5]);
@@ -190,6 +237,13 @@ fn inputs_at_and_over_the_limit() {
     let longer = [&whole[..], &[0]].concat();
     assert_eq!(longer.len(), 65_537);
     prints(&longer, "too long\n");
+    // One data byte less, and a pad in its place.
+    let padded = padded_table(2, &[(0x0080_0000, &vec![0x41; 65_519], &[0xFF])]);
+    assert_eq!(padded.len(), 65_536);
+    prints(
+        &padded,
+        "entry 00000002\nsection 00800000 65519\nend 1 65519\n",
+    );
     prints(&[0; 65_536], "refused 7 at 8\n");
     prints(&[0; 65_537], "too long\n");
     prints(&vec![0xFF; 65_536], "refused 5 at 4\n");
@@ -234,4 +288,28 @@ fn generated_tables() {
         let input = cases::boot_table(&mut numbers, &regions, 2);
         prints_as_reference(&input);
     }
+}
+
+#[test]
+fn other_pads_change_no_text() {
+    let mut numbers = Numbers::new(cases::seed(), 41);
+    let mut pairs = 0;
+    for _ in 0..300 {
+        let regions = cases::sound_map(&mut numbers);
+        let sections = cases::sections(&mut numbers, &regions);
+        let entry = cases::entry(&mut numbers, &regions);
+        let input = cases::table_of(entry, &sections);
+        let mut other = input.clone();
+        cases::change_pads(&mut numbers, &mut other, &sections);
+        if other == input {
+            continue;
+        }
+        let text = String::from_utf8(run(&input)).expect("the text is ASCII");
+        // The form is right, so the table is listed.
+        assert_eq!(text.lines().count(), sections.len() + 2, "{text}");
+        assert_eq!(String::from_utf8_lossy(&run(&other)), text);
+        pairs += 1;
+    }
+    println!("other pads: {pairs} pairs");
+    assert!(pairs >= 150, "{pairs} pairs");
 }

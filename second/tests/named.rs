@@ -1,8 +1,11 @@
 //! Cases by name: the bench cards, what students write first, and bad inputs
-//! one by one. Expected values are written by hand from document 01, and both
-//! the library and the reference must give them.
+//! one by one. Expected values are written by hand from document 01 as request
+//! 2 of document 02 mends it, and both the library and the reference must give
+//! them.
 
-use second::cases::{self, config, entries, map, record, section, table, Numbers};
+use second::cases::{
+    self, config, entries, map, padded_section, padded_table, record, table, Numbers,
+};
 use second::reference::{
     ConfigAnswer, JoinAnswer, LabelAnswer, LoadAnswer, MapAnswer, SameAnswer, StrapAnswer,
     TABLE_LIMIT,
@@ -16,6 +19,10 @@ const P: [u8; 20] = [
 ];
 const Q: [u8; 20] = [
     0, 0x80, 0, 4, 0, 0, 0, 1, 0, 0x80, 0, 4, 0xB7, 0, 0, 0, 0, 0, 0, 0,
+];
+/// P with its pad byte 01.
+const P_01: [u8; 20] = [
+    0, 0x80, 0, 0, 0, 0, 0, 3, 0, 0x80, 0, 2, 0xA1, 0xA2, 0xA3, 1, 0, 0, 0, 0,
 ];
 /// Memory for M: place i holds 0x60 plus i.
 const MEMORY: [u8; 16] = [
@@ -128,6 +135,15 @@ fn join_gives(first: &[u8], second: &[u8], before: &[u8], expected: JoinAnswer, 
         assert_eq!(join(first, second, &mut output), expected, "{name}, join");
         assert!(output == after, "{name}, output");
     }
+}
+
+/// A refusal of a table's form: in judging and loading, and on both sides of
+/// the join.
+fn form_refused(table: &[u8], number: u64, place: u64) {
+    load_refuses(&M, table, &MEMORY, refused(number, place));
+    let output = [0xEE; 64];
+    join_gives(table, &Q, &output, join_refused(number, place, 1), &output);
+    join_gives(&Q, table, &output, join_refused(number, place, 2), &output);
 }
 
 fn configured(entries: u64, bits: u64) -> ConfigAnswer {
@@ -282,10 +298,31 @@ fn card_5_cut_and_lengthened() {
 }
 
 #[test]
-fn card_6_a_pad_byte_that_is_not_zero() {
-    let mut table = P;
-    table[15] = 1;
-    load_refuses(&M, &table, &MEMORY, refused(6, 4));
+fn card_6_p_with_its_pad_byte_01() {
+    // P's answer and P's memory.
+    let after = with(&[(2, 0xA1), (3, 0xA2), (4, 0xA3)]);
+    load_gives(&M, &P_01, &MEMORY, accepted(0x0080_0000, 1, 1, 3), &after);
+}
+
+#[test]
+fn card_6_joined_with_q_both_ways() {
+    // The byte 01 stands after A3, first at 15 and then at 27.
+    let result = [
+        0, 0x80, 0, 4, 0, 0, 0, 3, 0, 0x80, 0, 2, 0xA1, 0xA2, 0xA3, 1, 0, 0, 0, 1, 0, 0x80, 0, 4,
+        0xB7, 0, 0, 0, 0, 0, 0, 0,
+    ];
+    join_gives(&P_01, &Q, &[0xEE; 32], joined(32, 2), &result);
+    let after = with(&[(2, 0xA1), (3, 0xA2), (4, 0xB7)]);
+    let answer = accepted(0x0080_0004, 1, 2, 4);
+    load_gives(&M, &result, &MEMORY, answer, &after);
+    let result = [
+        0, 0x80, 0, 0, 0, 0, 0, 1, 0, 0x80, 0, 4, 0xB7, 0, 0, 0, 0, 0, 0, 3, 0, 0x80, 0, 2, 0xA1,
+        0xA2, 0xA3, 1, 0, 0, 0, 0,
+    ];
+    join_gives(&Q, &P_01, &[0xEE; 32], joined(32, 2), &result);
+    let after = with(&[(2, 0xA1), (3, 0xA2), (4, 0xA3)]);
+    let answer = accepted(0x0080_0000, 1, 2, 4);
+    load_gives(&M, &result, &MEMORY, answer, &after);
 }
 
 #[test]
@@ -373,20 +410,25 @@ fn touching_sections_are_not_merged() {
 
 #[test]
 fn pads_are_not_stored() {
-    // P rounded up to four would put 00 at place 5.
+    // P rounded up to four would put its pad at place 5: 00, or 01.
     for (name, _, load) in LOADS {
-        let mut memory = MEMORY;
-        assert_eq!(load(&M, &P, &mut memory).bytes, 3, "{name}");
-        assert_eq!(memory[5], 0x65, "{name}");
+        for bytes in [P, P_01] {
+            let mut memory = MEMORY;
+            assert_eq!(load(&M, &bytes, &mut memory).bytes, 3, "{name}");
+            assert_eq!(memory[5], 0x65, "{name}");
+        }
     }
     // Sizes 1, 2 and 3 that end at the map's last address leave no room for a pad.
     for size in 1..=3 {
         let data = &[0xA1, 0xA2, 0xA3][..size];
-        let last = table(0, &[(0x0080_0010 - size as u32, data)]);
-        let mut after = MEMORY;
-        after[16 - size..].copy_from_slice(data);
-        let answer = accepted(0, 0, 1, size as u64);
-        load_gives(&M, &last, &MEMORY, answer, &after);
+        for pad in [0, 0xFF] {
+            let pads = vec![pad; 4 - size];
+            let last = padded_table(0, &[(0x0080_0010 - size as u32, data, &pads)]);
+            let mut after = MEMORY;
+            after[16 - size..].copy_from_slice(data);
+            let answer = accepted(0, 0, 1, size as u64);
+            load_gives(&M, &last, &MEMORY, answer, &after);
+        }
     }
 }
 
@@ -406,15 +448,17 @@ fn a_fault_in_the_last_section_leaves_the_first_unstored() {
     let first: (u32, &[u8]) = (0x0080_0002, &[0xA1, 0xA2, 0xA3]);
     let closed = table(0, &[first, (0x0080_0010, &[1])]);
     load_refuses(&M, &closed, &MEMORY, not_open(9, 16, 0x0080_0010));
-    let mut pad = table(0, &[first, (0x0080_0004, &[1])]);
-    pad[27] = 1;
-    load_refuses(&M, &pad, &MEMORY, refused(6, 16));
     let over = table(0, &[first, (0xFFFF_FFFF, &[1, 2])]);
     load_refuses(&M, &over, &MEMORY, refused(8, 16));
     let cut = &table(0, &[first, (0x0080_0004, &[1])])[..27];
     load_refuses(&M, cut, &MEMORY, refused(5, 16));
     let longer = [&P[..], &[0]].concat();
     load_refuses(&M, &longer, &MEMORY, refused(7, 20));
+    // A pad that is not zero is no fault: both are stored.
+    let mut pad = table(0, &[first, (0x0080_0004, &[1])]);
+    pad[27] = 1;
+    let after = with(&[(2, 0xA1), (3, 0xA2), (4, 1)]);
+    load_gives(&M, &pad, &MEMORY, accepted(0, 0, 2, 4), &after);
 }
 
 #[test]
@@ -643,17 +687,6 @@ fn a_size_word_larger_than_the_table() {
 }
 
 #[test]
-fn an_address_over_the_top_comes_before_a_pad() {
-    let mut bytes = table(0, &[(0xFFFF_FFFE, &[1, 2, 3])]);
-    bytes[15] = 9;
-    load_refuses(&M, &bytes, &MEMORY, refused(8, 4));
-    bytes[8..12].copy_from_slice(&0xFFFF_FFFDu32.to_be_bytes());
-    load_refuses(&M, &bytes, &MEMORY, refused(6, 4));
-    bytes[15] = 0;
-    load_refuses(&M, &bytes, &MEMORY, not_open(9, 4, 0xFFFF_FFFD));
-}
-
-#[test]
 fn a_size_one_off_at_the_top() {
     // The largest size that the top allows, and one more.
     for (address, size, fits) in [
@@ -672,33 +705,213 @@ fn a_size_one_off_at_the_top() {
 }
 
 #[test]
-fn each_pad_byte_is_looked_at() {
+fn form_comes_before_the_map_rule() {
+    // The first section is not open; behind it the form has a fault.
+    let mut bytes = table(0, &[(0x0070_0000, &[1]), (0x0080_0000, &[2])]);
+    load_refuses(&M, &bytes, &MEMORY, not_open(9, 4, 0x0070_0000));
+    // A pad that is not zero is none.
+    bytes[27] = 1;
+    load_refuses(&M, &bytes, &MEMORY, not_open(9, 4, 0x0070_0000));
+    load_refuses(&M, &bytes[..27], &MEMORY, refused(5, 16));
+    load_refuses(&M, &bytes[..31], &MEMORY, refused(5, 28));
+    let longer = [&bytes[..], &[1]].concat();
+    load_refuses(&M, &longer, &MEMORY, refused(7, 32));
+    let over = table(0, &[(0x0070_0000, &[1]), (0xFFFF_FFFF, &[2, 3])]);
+    load_refuses(&M, &over, &MEMORY, refused(8, 16));
+    // The first fault in table order: 8 in the first, 5 in the second.
+    let both = table(0, &[(0xFFFF_FFFF, &[2, 3]), (0x0080_0000, &[1])]);
+    load_refuses(&M, &both[..27], &MEMORY, refused(8, 4));
+}
+
+// Pads.
+
+#[test]
+fn each_pad_byte_may_hold_anything() {
     for size in 1..=4 {
-        let right = table(0, &[(0x0080_0000, &vec![0xFF; size])]);
-        for at in 12 + size..right.len() - 4 {
-            for bit in 0..8 {
-                let mut bytes = right.clone();
-                bytes[at] = 1 << bit;
-                load_refuses(&M, &bytes, &MEMORY, refused(6, 4));
+        let data = &[0xC1, 0xC2, 0xC3, 0xC4][..size];
+        let zero = table(0, &[(0x0080_0000, data)]);
+        let mut after = MEMORY;
+        after[..size].copy_from_slice(data);
+        let answer = accepted(0, 0, 1, size as u64);
+        load_gives(&M, &zero, &MEMORY, answer, &after);
+        // One byte that is not zero, in each of the three, two or one places.
+        for at in 12 + size..16 {
+            for byte in 1..=255 {
+                let mut bytes = zero.clone();
+                bytes[at] = byte;
+                load_gives(&M, &bytes, &MEMORY, answer, &after);
             }
         }
-        let mut after = MEMORY;
-        after[..size].fill(0xFF);
-        load_gives(&M, &right, &MEMORY, accepted(0, 0, 1, size as u64), &after);
     }
 }
 
 #[test]
-fn form_comes_before_the_map_rule() {
-    // The first section is not open, the second has a pad that is not zero.
-    let mut bytes = table(0, &[(0x0070_0000, &[1]), (0x0080_0000, &[2])]);
-    load_refuses(&M, &bytes, &MEMORY, not_open(9, 4, 0x0070_0000));
-    bytes[27] = 1;
-    load_refuses(&M, &bytes, &MEMORY, refused(6, 16));
-    // The first fault in table order: 6 in the first, 8 in the second.
-    let mut bytes = table(0, &[(0x0080_0000, &[1]), (0xFFFF_FFFF, &[2, 3])]);
-    bytes[13] = 1;
-    load_refuses(&M, &bytes, &MEMORY, refused(6, 4));
+fn pads_of_ff() {
+    // Sizes 1 to 4 with three, two, one and no pads.
+    let bytes = [
+        0, 0x80, 0, 0, 0, 0, 0, 1, 0, 0x80, 0, 0, 0xA1, 0xFF, 0xFF, 0xFF, 0, 0, 0, 2, 0, 0x80, 0,
+        4, 0xB1, 0xB2, 0xFF, 0xFF, 0, 0, 0, 3, 0, 0x80, 0, 8, 0xC1, 0xC2, 0xC3, 0xFF, 0, 0, 0, 4,
+        0, 0x80, 0, 0x0B, 0xD1, 0xD2, 0xD3, 0xD4, 0, 0, 0, 0,
+    ];
+    let zero = table(
+        0x0080_0000,
+        &[
+            (0x0080_0000, &[0xA1]),
+            (0x0080_0004, &[0xB1, 0xB2]),
+            (0x0080_0008, &[0xC1, 0xC2, 0xC3]),
+            (0x0080_000B, &[0xD1, 0xD2, 0xD3, 0xD4]),
+        ],
+    );
+    let after = [
+        0xA1, 0x61, 0x62, 0x63, 0xB1, 0xB2, 0x66, 0x67, 0xC1, 0xC2, 0xC3, 0xD1, 0xD2, 0xD3, 0xD4,
+        0x6F,
+    ];
+    let answer = accepted(0x0080_0000, 1, 4, 10);
+    load_gives(&M, &bytes, &MEMORY, answer, &after);
+    load_gives(&M, &zero, &MEMORY, answer, &after);
+}
+
+#[test]
+fn pads_cut_after_0_1_and_2_of_3_bytes() {
+    // Size 1 asks for three pads; the data byte stands at 12 and at 24.
+    for pads in [[0, 0, 0], [0xFF, 0xFF, 0xFF], [0, 1, 0]] {
+        let first = padded_table(0x0080_0000, &[(0x0080_0002, &[0xA1], &pads)]);
+        let second = [&P_01[..16], &first[4..]].concat();
+        for there in 0..3 {
+            form_refused(&first[..13 + there], 5, 4);
+            form_refused(&second[..25 + there], 5, 16);
+        }
+        let after = with(&[(2, 0xA1)]);
+        let answer = accepted(0x0080_0000, 1, 1, 1);
+        load_gives(&M, &first, &MEMORY, answer, &after);
+    }
+}
+
+#[test]
+fn pads_cut_after_data_of_every_size() {
+    // Sizes 1 to 8, each cut after none to all but one of its pads.
+    for size in 1..=8 {
+        let data = &[0xC5; 8][..size];
+        let pads = &[0xFF; 3][..(8 - size) % 4];
+        let bytes = padded_table(0, &[(0x0080_0000, data, pads)]);
+        for there in 0..pads.len() {
+            form_refused(&bytes[..12 + size + there], 5, 4);
+        }
+        // With all pads only the zero word is missing.
+        let end = 12 + size + pads.len();
+        form_refused(&bytes[..end], 5, end as u64);
+    }
+}
+
+#[test]
+fn pads_as_the_last_bytes_of_a_table() {
+    // The zero word should stand at 16; zero pads do not stand for it.
+    for pads in [[0, 0, 0], [0xFF, 0xFF, 0xFF], [1, 0, 0]] {
+        let bytes = padded_table(0x0080_0000, &[(0x0080_0002, &[0xA1], &pads)]);
+        for there in 0..4 {
+            form_refused(&bytes[..16 + there], 5, 16);
+        }
+    }
+    form_refused(&P[..16], 5, 16);
+    form_refused(&P_01[..16], 5, 16);
+}
+
+#[test]
+fn a_size_that_needs_no_pads() {
+    // Sizes 4 and 8: the word after the data is the next header.
+    let bytes = [
+        0, 0x80, 0, 0, 0, 0, 0, 4, 0, 0x80, 0, 0, 0xC1, 0xC2, 0xC3, 0xC4, 0, 0, 0, 8, 0, 0x80, 0,
+        8, 0xD1, 0xD2, 0xD3, 0xD4, 0xD5, 0xD6, 0xD7, 0xD8, 0, 0, 0, 1, 0, 0x80, 0, 6, 0xE1, 0xFF,
+        0xFF, 0xFF, 0, 0, 0, 0,
+    ];
+    let after = [
+        0xC1, 0xC2, 0xC3, 0xC4, 0x64, 0x65, 0xE1, 0x67, 0xD1, 0xD2, 0xD3, 0xD4, 0xD5, 0xD6, 0xD7,
+        0xD8,
+    ];
+    let answer = accepted(0x0080_0000, 1, 3, 13);
+    load_gives(&M, &bytes, &MEMORY, answer, &after);
+    // Four bytes 0xFF there are no pads but a size word, and its section is cut.
+    form_refused(&[&bytes[..16], &[0xFF; 4], &[0; 4]].concat(), 5, 16);
+    // Four zero bytes there are no pads but the zero word.
+    form_refused(&[&bytes[..16], &[0; 4], &[0; 4]].concat(), 7, 20);
+}
+
+#[test]
+fn an_address_over_the_top_or_not_open_whatever_the_pads_hold() {
+    for pad in [0, 1, 9, 0xFF] {
+        let over = padded_table(0, &[(0xFFFF_FFFE, &[1, 2, 3], &[pad])]);
+        form_refused(&over, 8, 4);
+        let top = padded_table(0, &[(0xFFFF_FFFD, &[1, 2, 3], &[pad])]);
+        load_refuses(&M, &top, &MEMORY, not_open(9, 4, 0xFFFF_FFFD));
+        let last = padded_table(0, &[(0x0080_000F, &[1, 2], &[pad, pad])]);
+        load_refuses(&M, &last, &MEMORY, not_open(9, 4, 0x0080_0010));
+        // A cut section is 5 before it is 8.
+        form_refused(&over[..15], 5, 4);
+    }
+}
+
+#[test]
+fn a_fault_behind_pads_that_are_not_zero() {
+    let first: (u32, &[u8], &[u8]) = (0x0080_0002, &[0xA1], &[0xFF, 0, 1]);
+    let bytes = padded_table(0, &[first, (0x0080_0004, &[1, 2], &[3, 4])]);
+    assert_eq!(bytes.len(), 32);
+    let after = with(&[(2, 0xA1), (4, 1), (5, 2)]);
+    load_gives(&M, &bytes, &MEMORY, accepted(0, 0, 2, 3), &after);
+    // 5 in the second section and in the zero word, 7 behind it.
+    for length in 16..28 {
+        form_refused(&bytes[..length], 5, 16);
+    }
+    for length in 28..32 {
+        form_refused(&bytes[..length], 5, 28);
+    }
+    form_refused(&[&bytes[..], &[0]].concat(), 7, 32);
+    // 8 and 9 in the second section.
+    let over = padded_table(0, &[first, (0xFFFF_FFFF, &[1, 2], &[3, 4])]);
+    form_refused(&over, 8, 16);
+    let closed = padded_table(0, &[first, (0x0080_000F, &[1, 2], &[3, 4])]);
+    load_refuses(&M, &closed, &MEMORY, not_open(9, 16, 0x0080_0010));
+    // The first section is not open, and the second is past the top.
+    let both = padded_table(
+        0,
+        &[
+            (0x0070_0000, &[1], &[0xFF; 3]),
+            (0xFFFF_FFFF, &[1, 2], &[3, 4]),
+        ],
+    );
+    load_refuses(&M, &both, &MEMORY, refused(8, 16));
+}
+
+#[test]
+fn two_sections_with_different_pads_swapped() {
+    // The sections share no address: the same answer and the same memory.
+    let bytes = [
+        0, 0x80, 0, 0, 0, 0, 0, 3, 0, 0x80, 0, 2, 0xA1, 0xA2, 0xA3, 1, 0, 0, 0, 1, 0, 0x80, 0, 8,
+        0xB7, 0xFF, 2, 3, 0, 0, 0, 0,
+    ];
+    let swapped = [
+        0, 0x80, 0, 0, 0, 0, 0, 1, 0, 0x80, 0, 8, 0xB7, 0xFF, 2, 3, 0, 0, 0, 3, 0, 0x80, 0, 2,
+        0xA1, 0xA2, 0xA3, 1, 0, 0, 0, 0,
+    ];
+    let after = with(&[(2, 0xA1), (3, 0xA2), (4, 0xA3), (8, 0xB7)]);
+    let answer = accepted(0x0080_0000, 1, 2, 4);
+    load_gives(&M, &bytes, &MEMORY, answer, &after);
+    load_gives(&M, &swapped, &MEMORY, answer, &after);
+    // Each is the join of two tables with one section, pads as they stand.
+    let other = [
+        0, 0x80, 0, 0, 0, 0, 0, 1, 0, 0x80, 0, 8, 0xB7, 0xFF, 2, 3, 0, 0, 0, 0,
+    ];
+    join_gives(&P_01, &other, &[0xEE; 32], joined(32, 2), &bytes);
+    join_gives(&other, &P_01, &[0xEE; 32], joined(32, 2), &swapped);
+    // They share 0x00800004 and agree there.
+    let shared: [(u32, &[u8], &[u8]); 2] = [
+        (0x0080_0002, &[0xA1, 0xA2, 0xA3], &[0xFF]),
+        (0x0080_0004, &[0xA3], &[7, 8, 9]),
+    ];
+    let after = with(&[(2, 0xA1), (3, 0xA2), (4, 0xA3)]);
+    let answer = accepted(0, 0, 2, 4);
+    load_gives(&M, &padded_table(0, &shared), &MEMORY, answer, &after);
+    let exchanged = [shared[1], shared[0]];
+    load_gives(&M, &padded_table(0, &exchanged), &MEMORY, answer, &after);
 }
 
 #[test]
@@ -768,7 +981,9 @@ fn boot_tables_at_and_over_the_limit() {
     let count = (TABLE_LIMIT - 8) / 12;
     let mut many = vec![0; 4];
     for i in 0..count {
-        many.extend(section(0x0080_0000 + (i % 16) as u32, &[(i % 251) as u8]));
+        let address = 0x0080_0000 + (i % 16) as u32;
+        let pads = [0xFF, (i % 7) as u8, 1];
+        many.extend(padded_section(address, &[(i % 251) as u8], &pads));
     }
     many.extend([0; 4]);
     let mut after = [0; 16];
@@ -803,19 +1018,61 @@ fn joins_with_a_table_without_sections() {
     entry_changed[..4].copy_from_slice(&[0, 0x90, 0, 0]);
     join_gives(&P, &none, &[0xEE; 20], joined(20, 1), &entry_changed);
     join_gives(&table(1, &[]), &none, &[0xEE; 8], joined(8, 0), &none);
+    // The pad byte 01 stays.
+    join_gives(&none, &P_01, &[0xEE; 20], joined(20, 1), &P_01);
+    entry_changed[15] = 1;
+    join_gives(&P_01, &none, &[0xEE; 20], joined(20, 1), &entry_changed);
+}
+
+#[test]
+fn joins_keep_pads_as_they_stand() {
+    let first = [
+        0, 0, 0, 1, 0, 0, 0, 1, 0, 0, 0, 0x10, 0xA1, 0xF1, 0xF2, 0xF3, 0, 0, 0, 2, 0, 0, 0, 0x20,
+        0xA2, 0xA3, 0xF4, 0, 0, 0, 0, 0,
+    ];
+    let second = [
+        0, 0, 0, 2, 0, 0, 0, 3, 0, 0, 0, 0x30, 0xB1, 0xB2, 0xB3, 0xFF, 0, 0, 0, 4, 0, 0, 0, 0x40,
+        0xB4, 0xB5, 0xB6, 0xB7, 0, 0, 0, 1, 0, 0, 0, 0x50, 0xB8, 0, 0, 1, 0, 0, 0, 0,
+    ];
+    let result = [
+        0, 0, 0, 2, 0, 0, 0, 1, 0, 0, 0, 0x10, 0xA1, 0xF1, 0xF2, 0xF3, 0, 0, 0, 2, 0, 0, 0, 0x20,
+        0xA2, 0xA3, 0xF4, 0, 0, 0, 0, 3, 0, 0, 0, 0x30, 0xB1, 0xB2, 0xB3, 0xFF, 0, 0, 0, 4, 0, 0,
+        0, 0x40, 0xB4, 0xB5, 0xB6, 0xB7, 0, 0, 0, 1, 0, 0, 0, 0x50, 0xB8, 0, 0, 1, 0, 0, 0, 0,
+    ];
+    join_gives(&first, &second, &[0xEE; 68], joined(68, 5), &result);
+    let result = [
+        0, 0, 0, 1, 0, 0, 0, 3, 0, 0, 0, 0x30, 0xB1, 0xB2, 0xB3, 0xFF, 0, 0, 0, 4, 0, 0, 0, 0x40,
+        0xB4, 0xB5, 0xB6, 0xB7, 0, 0, 0, 1, 0, 0, 0, 0x50, 0xB8, 0, 0, 1, 0, 0, 0, 1, 0, 0, 0,
+        0x10, 0xA1, 0xF1, 0xF2, 0xF3, 0, 0, 0, 2, 0, 0, 0, 0x20, 0xA2, 0xA3, 0xF4, 0, 0, 0, 0, 0,
+    ];
+    join_gives(&second, &first, &[0xEE; 68], joined(68, 5), &result);
+    // Three pads: each of them alone not zero, and all 0xFF.
+    for [x, y, z] in [[1, 0, 0], [0, 1, 0], [0, 0, 1], [0xFF; 3]] {
+        let padded = [
+            0, 0, 0, 3, 0, 0, 0, 1, 0, 0, 0, 0x60, 0xC1, x, y, z, 0, 0, 0, 0,
+        ];
+        let before_q = [
+            0, 0x80, 0, 4, 0, 0, 0, 1, 0, 0, 0, 0x60, 0xC1, x, y, z, 0, 0, 0, 1, 0, 0x80, 0, 4,
+            0xB7, 0, 0, 0, 0, 0, 0, 0,
+        ];
+        let after_q = [
+            0, 0, 0, 3, 0, 0, 0, 1, 0, 0x80, 0, 4, 0xB7, 0, 0, 0, 0, 0, 0, 1, 0, 0, 0, 0x60, 0xC1,
+            x, y, z, 0, 0, 0, 0,
+        ];
+        join_gives(&padded, &Q, &[0xEE; 32], joined(32, 2), &before_q);
+        join_gives(&Q, &padded, &[0xEE; 32], joined(32, 2), &after_q);
+    }
 }
 
 #[test]
 fn joins_of_damaged_tables() {
-    let mut pad = P;
-    pad[14 + 1] = 7;
-    let over = table(0, &[(0xFFFF_FFFF, &[1, 2])]);
-    let longer = [&P[..], &[0, 0]].concat();
+    let over = padded_table(0, &[(0xFFFF_FFFF, &[1, 2], &[7, 0xFF])]);
+    let longer = [&P_01[..], &[0, 0]].concat();
     let faults: [(&[u8], u64, u64); 6] = [
         (&[], 5, 0),
         (&P[..19], 5, 16),
         (&P[..7], 5, 4),
-        (&pad, 6, 4),
+        (&P[..15], 5, 4),
         (&longer, 7, 20),
         (&over, 8, 4),
     ];

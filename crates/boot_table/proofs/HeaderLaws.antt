@@ -2,9 +2,9 @@
 use Prim.Native.Nat.{ℕ, _+_, _^_, _≤_, _<_}
 use mathlib.Core.Path.{_≡_}
 use mathlib.Core.List.{List, _++_}
-use lib.ListN.{length, take, drop}
+use lib.ListN.{length, getD, take, drop}
 use Rattle.words.specs.Word.{Bytes}
-use Rattle.words.proofs.WordLaws.{word-seam, word-bytes, length-word, bytes-word, word-lt}
+use Rattle.words.proofs.WordLaws.{word-seam, word-bytes, length-word, bytes-word, word-lt, word-same}
 use Rattle.boot_table.specs.Table.{headerAt, headerBytes}
 
 -- the first word of what stands behind p
@@ -29,3 +29,8 @@ bytes-header t i b h = bytes-word t i b h
 pub header-lt : (t : List ℕ) (i : ℕ) → Bytes t → headerAt t i < 2 ^ 32
 unfolding headerAt
 header-lt t i b = word-lt t i b
+
+-- where two tables have the same four bytes they have the same word
+pub header-same : (t u : List ℕ) (i : ℕ) → ((k : ℕ) → k < 4 → getD t (i + k) 0 ≡ getD u (i + k) 0) → headerAt t i ≡ headerAt u i
+unfolding headerAt
+header-same t u i same = word-same t u i same

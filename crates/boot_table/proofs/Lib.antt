@@ -4,3 +4,4 @@ pub mod ReadLaws
 pub mod FormLaws
 pub mod RoundTrip
 pub mod MeaningLaws
+pub mod PadLaws

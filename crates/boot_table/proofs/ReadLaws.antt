@@ -9,6 +9,7 @@ use lib.ListN.{length}
 use types.Run.{OneOf}
 use denote.Enum.Declared.{tagOf}
 use Rattle.words.specs.Word.{padCount}
+use Rattle.words.specs.Refusal.{TABLE-CUT}
 use Rattle.boot_table.proofs.Step.{the-type}
 use Rattle.boot_table.specs.declared.Step.{Step}
 use Rattle.boot_table.specs.declared.Step.the-variants.{Section, End, Fault}
@@ -118,20 +119,32 @@ module _ (t : List ℕ) (at : ℕ) where
       go End e = absurd (n (end-of t at e .1))
       go (Fault number place) e = absurd (read-no-fault e f)
 
+-- ---- induction over the steps
+
+-- what holds at the end, at a fault, and at each section where it holds at the next offset, holds at every offset
+module _ (t : List ℕ) (P : ℕ → Type 0)
+    (end : (at : ℕ) → stepAt t at ≡ End → P at)
+    (fault : (at number place : ℕ) → stepAt t at ≡ Fault number place → P at)
+    (section : (at address size start next : ℕ) → stepAt t at ≡ Section address size start next → P next → P at) where
+  step-on : (at : ℕ) (s : Step) → stepAt t at ≡ s → ((next : ℕ) → at < next → P next) → P at
+  step-on at (Section address size start next) e on =
+      section at address size start next e (on next (omega (arith, section-of t at e .next-is)))
+  step-on at End e on = end at e
+  step-on at (Fault number place) e on = fault at number place e
+
+  step-in : (n at : ℕ) → length t ≤ at + n → P at
+  step-in zero at h = fault at TABLE-CUT at (step-cut t at (omega arith))
+  step-in (suc n) at h = step-on at (stepAt t at) refl (λ next l. step-in n next (omega arith))
+
+  pub step-ind : (at : ℕ) → P at
+  step-ind at = step-in (length t) at (omega arith)
+
 -- what holds at the end, and at each section where it holds at the next offset, holds where reading finds no fault
 module _ (t : List ℕ) (P : ℕ → Type 0)
     (end : (at : ℕ) → stepAt t at ≡ End → P at)
     (section : (at address size start next : ℕ) → stepAt t at ≡ Section address size start next → readOn t next .fault ≡ 0 → P next → P at) where
-  whole-on : (at : ℕ) → readOn t at .fault ≡ 0 → (s : Step) → stepAt t at ≡ s → ((next : ℕ) → at < next → readOn t next .fault ≡ 0 → P next) → P at
-  whole-on at f (Section address size start next) e on =
-      let g = read-next t at e f in
-      section at address size start next e g (on next (omega (arith, section-of t at e .next-is)) g)
-  whole-on at f End e on = end at e
-  whole-on at f (Fault number place) e on = absurd (read-no-fault t at e f)
-
-  whole-in : (n at : ℕ) → length t ≤ at + n → readOn t at .fault ≡ 0 → P at
-  whole-in zero at h f = absurd (omega (arith, read-room t at f))
-  whole-in (suc n) at h f = whole-on at f (stepAt t at) refl (λ next l g. whole-in n next (omega arith) g)
-
   pub whole-ind : (at : ℕ) → readOn t at .fault ≡ 0 → P at
-  whole-ind at f = whole-in (length t) at (omega arith) f
+  whole-ind = step-ind t (λ (at : ℕ). readOn t at .fault ≡ 0 → P at)
+      (λ at e f. end at e)
+      (λ at number place e f. absurd (read-no-fault t at e f))
+      (λ at address size start next e on f. let g = read-next t at e f in section at address size start next e g (on g))

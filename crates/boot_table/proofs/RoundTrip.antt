@@ -1,23 +1,21 @@
 -- The round trips between a table and its sections.
-use Prim.Native.Nat.{ℕ, zero, suc, _+_, _-_, _<_, _^_}
+use Prim.Native.Nat.{ℕ, _+_, _-_, _<_, _^_}
 use mathlib.Core.Path.{_≡_, refl, sym, ap, _∙_}
 use mathlib.Core.List.{List, [], _∷_, _++_, append-assoc, append-nil}
-use mathlib.Core.Bool.{true}
 use native.Mathlib.Omega.{arith}
-use borrow.Author.Tests.{le-ltb, ne-eqb}
-use lib.ListN.{length, take, drop, replicate, length-append, length-drop, take-append-drop}
+use borrow.Author.Tests.{le-ltb}
+use lib.ListN.{length, take, drop, length-append, length-drop, take-append-drop}
 use lib.Seq.{take-all, take-at, drop-at, drop-drop}
 use Rattle.words.specs.Word.{Bytes, padCount}
-use Rattle.words.proofs.ChoiceLaws.{both-ways}
-use Rattle.boot_table.specs.Table.{headerAt, headerBytes, entryOf, Sect, chunk, chunks, tableOf, allZero, padsAt, sectionAt, before, readOn, reading}
+use Rattle.boot_table.specs.Table.{headerAt, headerBytes, entryOf, Sect, chunk, chunks, tableOf, sectionAt, before, readOn, reading}
 use Rattle.boot_table.specs.Form.{WellFormed}
-use Rattle.boot_table.specs.Valid.{Valid, ZeroPads, All, none, also}
+use Rattle.boot_table.specs.Valid.{Valid, All, none, also}
 use Rattle.boot_table.proofs.HeaderLaws.{header-seam, header-bytes, length-header, bytes-header, header-lt}
 use Rattle.boot_table.proofs.StepLaws.{IsSection, section-of, section-step, end-of, end-step, length-body, length-pads}
 use Rattle.boot_table.proofs.ReadLaws.{read-section, read-end, whole-ind}
 use Rattle.boot_table.proofs.FormLaws.{well-read, well-long}
 
--- ---- lengths, sections one after another, and zero bytes
+-- ---- lengths, and sections one after another
 
 -- the bytes of sections stand one after another
 pub chunks-append : (xs ys : List Sect) → chunks (xs ++ ys) ≡ chunks xs ++ chunks ys
@@ -39,26 +37,15 @@ pub all-parts : {P : Sect → Type 0} (xs ys : List Sect) → All P (xs ++ ys) �
 all-parts [] ys q = (none, q)
 all-parts (x ∷ xs) ys (also p ps) = let r = all-parts xs ys ps in (also p (r .0), r .1)
 
--- zero bytes are all zero, and bytes that are all zero are so many zeros
-zeros-all : (n : ℕ) → allZero (replicate n 0) ≡ true
-unfolding allZero
-zeros-all zero = refl
-zeros-all (suc n) = zeros-all n
-
-all-zeros : (xs : List ℕ) → allZero xs ≡ true → xs ≡ replicate (length xs) 0
-unfolding allZero
-all-zeros [] h = refl
-all-zeros (zero ∷ xs) h = ap (λ (l : List ℕ). 0 ∷ l) (all-zeros xs h)
-all-zeros (suc x ∷ xs) h = absurd (both-ways _ h (simp (ne-eqb (suc x) 0 (λ z. omega arith))))
-
 -- ---- written, then read
+
+-- a valid section has its two header words, its data, and as many pads as follow from its size
+pub length-chunk : (s : Sect) → Valid s → length (chunk s) ≡ 8 + length (s .body) + padCount (length (s .body))
+unfolding chunk
+length-chunk s v = simp (length-append, length-header) (omega (arith, v .padded))
 
 -- a valid section that stands between p and q
 module _ (p q : List ℕ) (s : Sect) (v : Valid s) where
-  length-chunk : length (chunk s) ≡ 8 + length (s .body) + padCount (length (s .body))
-  unfolding chunk
-  length-chunk = simp (length-append, length-header) (omega (arith, v .padded))
-
   -- the bytes cut before its address, before its data, and before its pads
   cut-address : p ++ (chunk s ++ q) ≡ (p ++ headerBytes (length (s .body))) ++ (headerBytes (s .address) ++ (s .body ++ s .pads ++ q))
   unfolding chunk
@@ -92,8 +79,7 @@ module _ (p q : List ℕ) (s : Sect) (v : Valid s) where
         take-at (s .body) _ (length (s .body)) refl,
       ) refl
 
-  pads-at : padsAt (p ++ (chunk s ++ q)) (length p) (length (s .body)) ≡ s .pads
-  unfolding padsAt
+  pads-at : take (padCount (length (s .body))) (drop (length p + 8 + length (s .body)) (p ++ (chunk s ++ q))) ≡ s .pads
   pads-at =
       rw (
         cut-pads,
@@ -102,17 +88,16 @@ module _ (p q : List ℕ) (s : Sect) (v : Valid s) where
       ) refl
 
   -- so the section stands there, and is read
-  chunk-at : ZeroPads s → IsSection (p ++ (chunk s ++ q)) (length p) (s .address) (length (s .body)) (length p + 8) (length p + length (chunk s))
-  chunk-at z = record {
+  chunk-at : IsSection (p ++ (chunk s ++ q)) (length p) (s .address) (length (s .body)) (length p + 8) (length p + length (chunk s))
+  chunk-at = record {
     start-is = refl;
-    next-is = omega (arith, length-chunk);
+    next-is = omega (arith, length-chunk s v);
     within = simp length-append (omega arith);
     some = v .some;
-    head = simp length-append (omega (arith, length-chunk));
+    head = simp length-append (omega (arith, length-chunk s v));
     size-is = sym size-at;
     address-is = sym address-at;
     top = v .top;
-    zeros = ap allZero (pads-at ∙ z) ∙ zeros-all (length (s .pads));
   }
 
   section-at : sectionAt (p ++ (chunk s ++ q)) (length p) (s .address) (length (s .body)) ≡ s
@@ -120,27 +105,27 @@ module _ (p q : List ℕ) (s : Sect) (v : Valid s) where
   section-at = λ i. record { address = s .address; body = body-at i; pads = pads-at i }
 
 -- sections that stand behind p up to the zero word are read; t is a variable, so that nothing rewrites it
-read-chunks : (t p : List ℕ) (at : ℕ) {ss : List Sect} → All Valid ss → All ZeroPads ss → t ≡ p ++ (chunks ss ++ headerBytes 0) → at ≡ length p
+read-chunks : (t p : List ℕ) (at : ℕ) {ss : List Sect} → All Valid ss → t ≡ p ++ (chunks ss ++ headerBytes 0) → at ≡ length p
     → readOn t at ≡ record { sections = ss; fault = 0; place = 0 }
 unfolding chunks before
-read-chunks t p at none z e l =
+read-chunks t p at none e l =
     let zero : headerAt t at ≡ 0 = rw (e, l) (header-seam p (headerBytes 0) ∙ rw append-nil at (header-bytes 0 [] (omega arith))) in
     read-end t at (end-step t at (rw e (simp (length-append, length-header) (omega arith))) zero)
-read-chunks t p at (also {s = s} {ss = ss} v vs) (also z zs) e l =
+read-chunks t p at (also {s = s} {ss = ss} v vs) e l =
     let q = chunks ss ++ headerBytes 0 in
     let f : t ≡ p ++ (chunk s ++ q) = e ∙ simp append-assoc in
-    let i : IsSection t at (s .address) (length (s .body)) (at + 8) (at + length (chunk s)) = rw (f, l) (chunk-at p q s v z) in
+    let i : IsSection t at (s .address) (length (s .body)) (at + 8) (at + length (chunk s)) = rw (f, l) (chunk-at p q s v) in
     let b : sectionAt t at (s .address) (length (s .body)) ≡ s = rw (f, l) (section-at p q s v) in
     let r : readOn t (at + length (chunk s)) ≡ record { sections = ss; fault = 0; place = 0 } =
-    read-chunks t (p ++ chunk s) (at + length (chunk s)) vs zs (f ∙ simp append-assoc) (simp length-append (omega arith)) in
+    read-chunks t (p ++ chunk s) (at + length (chunk s)) vs (f ∙ simp append-assoc) (simp length-append (omega arith)) in
     read-section t at (section-step t at i) ∙ rw (b, r) refl
 
--- Valid sections with zero pads that are written as a table are read back from it, without a fault.
-pub read-table : (entry : ℕ) (ss : List Sect) → All Valid ss → All ZeroPads ss → reading (tableOf entry ss) ≡ record { sections = ss; fault = 0; place = 0 }
+-- Valid sections that are written as a table are read back from it, pads too, without a fault.
+pub read-table : (entry : ℕ) (ss : List Sect) → All Valid ss → reading (tableOf entry ss) ≡ record { sections = ss; fault = 0; place = 0 }
 unfolding tableOf reading
-read-table entry ss v z =
+read-table entry ss v =
     rw (le-ltb (length (tableOf entry ss)) 4 (simp (length-append, length-header) (omega arith)))
-    (read-chunks (tableOf entry ss) (headerBytes entry) 4 v z (simp append-assoc) (sym (length-header entry)))
+    (read-chunks (tableOf entry ss) (headerBytes entry) 4 v (simp append-assoc) (sym (length-header entry)))
 
 -- The entry is read back too.
 pub entry-table : (entry : ℕ) (ss : List Sect) → entry < 2 ^ 32 → entryOf (tableOf entry ss) ≡ entry
@@ -156,7 +141,7 @@ peel t i n j e = sym (take-append-drop n (drop i t)) ∙ rw (drop-drop, e)
 module _ (t : List ℕ) (b : Bytes t) where
   -- the bytes from a section on are the section's, and then those from the next offset on
   section-bytes : (at : ℕ) {address size start next : ℕ} → IsSection t at address size start next → drop at t ≡ chunk (sectionAt t at address size) ++ drop next t
-  unfolding chunk sectionAt padsAt
+  unfolding chunk sectionAt
   section-bytes at {address} {size} {start} {next} i =
       let body : List ℕ = take size (drop (at + 8) t) in
       let pads : List ℕ = take (padCount size) (drop (at + 8 + size) t) in
@@ -200,13 +185,6 @@ module _ (t : List ℕ) (b : Bytes t) where
       (λ at e. rw (read-end t at e) none)
       (λ at address size start next e g on. rw (read-section t at e) (also (section-valid at (section-of t at e)) on))
 
--- and its pads are zero
-read-zeros : (t : List ℕ) (at : ℕ) → readOn t at .fault ≡ 0 → All ZeroPads (readOn t at .sections)
-unfolding before sectionAt
-read-zeros t = whole-ind t (λ (at : ℕ). All ZeroPads (readOn t at .sections))
-    (λ at e. rw (read-end t at e) none)
-    (λ at address size start next e g on. rw (read-section t at e) (also (all-zeros (padsAt t at size) (section-of t at e .zeros)) on))
-
 module _ (t : List ℕ) (b : Bytes t) (w : WellFormed t) where
   -- the entry word of a well-formed table
   pub read-head : take 4 t ≡ headerBytes (entryOf t)
@@ -221,12 +199,9 @@ module _ (t : List ℕ) (b : Bytes t) (w : WellFormed t) where
   unfolding tableOf
   table-read = simp append-assoc (rw (← past-head, ← read-head) (take-append-drop 4 t))
 
-  -- Those sections are valid, with zero pads.
+  -- Those sections are valid.
   pub valid-read : All Valid (reading t .sections)
   valid-read = let r = well-read t w in rw (r .0) (read-valid t b 4 (r .1))
-
-  pub zeros-read : All ZeroPads (reading t .sections)
-  zeros-read = let r = well-read t w in rw (r .0) (read-zeros t 4 (r .1))
 
   -- their bytes are all but eight of the table's
   pub length-read : length t ≡ 8 + length (chunks (reading t .sections))

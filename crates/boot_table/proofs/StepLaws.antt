@@ -1,44 +1,22 @@
 -- The walk step: what each outcome says of the table, and when it comes out.
-use Prim.Native.Nat.{ℕ, _+_, _-_, _^_, _≤_, _<_}
-use mathlib.Core.Path.{_≡_, refl, sym, _∙_, subst}
+use Prim.Native.Nat.{ℕ, _+_, _^_, _≤_, _<_}
+use mathlib.Core.Path.{_≡_, refl, _∙_, subst}
 use mathlib.Core.List.{List, [], _∷_}
-use mathlib.Core.Bool.{Bool, true, false, not}
 use mathlib.Core.Logic.{⊎-elim}
-use native.Mathlib.Numerals.{add-one}
 use native.Mathlib.Omega.{arith}
-use borrow.Author.Tests.{eq-eqb, ne-eqb, lt-ltb, le-ltb, ltb-true, ltb-false, eqb-true, eqb-false, not-false}
-use lib.ListN.{length, getD, take, drop, length-drop}
-use lib.Seq.{drop-cons, length-take-le}
+use borrow.Author.Tests.{eq-eqb, ne-eqb, lt-ltb, le-ltb, ltb-true, ltb-false, eqb-true, eqb-false}
+use lib.ListN.{length, take, drop, length-drop}
+use lib.Seq.{length-take-le}
 use lib.Dec.{ltb, eqb}
 use types.Run.{OneOf}
 use denote.Enum.Declared.{tagOf}
 use Rattle.words.specs.Word.{padCount}
-use Rattle.words.specs.Refusal.{TABLE-CUT, PAD-NOT-ZERO, BYTES-AFTER, PAST-TOP}
+use Rattle.words.specs.Refusal.{TABLE-CUT, BYTES-AFTER, PAST-TOP}
 use Rattle.words.proofs.ChoiceLaws.{if-split}
 use Rattle.boot_table.proofs.Step.{the-type}
 use Rattle.boot_table.specs.declared.Step.{Step}
 use Rattle.boot_table.specs.declared.Step.the-variants.{Section, End, Fault}
-use Rattle.boot_table.specs.Table.{headerAt, allZero, padsAt, nextOf, endStep, sectionStep, stepAt, sectionAt}
-
--- ---- zero bytes
-
--- a zero in front changes nothing
-pub zero-on : (l : List ℕ) (i : ℕ) → i < length l → getD l i 0 ≡ 0 → allZero (drop i l) ≡ allZero (drop (i + 1) l)
-unfolding allZero
-zero-on l i h e = rw (add-one, drop-cons l i 0) (simp (eq-eqb _ _ e))
-
--- any other byte makes the answer false
-pub zero-off : (l : List ℕ) (i : ℕ) → i < length l → (getD l i 0 ≡ 0 → ⊥) → allZero (drop i l) ≡ false
-unfolding allZero
-zero-off l i h e = rw (drop-cons l i 0) (simp (ne-eqb _ _ e))
-
--- the answer on the part that the code cuts out is the answer on the pads
-pub pads-found : (t : List ℕ) (at size all : ℕ) (b : Bool) → all ≡ size + padCount size
-    → b ≡ allZero (take (at + 8 + all - (at + 8 + size)) (drop (at + 8 + size) t)) → allZero (padsAt t at size) ≡ b
-unfolding padsAt
-pads-found t at size all b e f =
-    let k : at + 8 + all - (at + 8 + size) ≡ padCount size = omega arith in
-    sym (rw k at f)
+use Rattle.boot_table.specs.Table.{headerAt, nextOf, endStep, sectionStep, stepAt, sectionAt}
 
 -- ---- when a step comes out as a fault
 
@@ -73,10 +51,13 @@ module _ (t : List ℕ) (at size : ℕ) (head : at + 4 ≤ length t) (es : size 
     unfolding sectionStep
     step-high h = step-some t at size head es z ∙ rw (← ea) (simp (le-ltb _ _ within, lt-ltb _ _ h))
 
-    -- a pad that is not zero
-    pub step-pad : address + size ≤ 2 ^ 32 → allZero (padsAt t at size) ≡ false → stepAt t at ≡ Fault PAD-NOT-ZERO at
-    unfolding sectionStep
-    step-pad h p = step-some t at size head es z ∙ rw (← ea) (simp (le-ltb _ _ within, le-ltb _ _ h, p))
+-- ---- what a step depends on
+
+-- the length of the table and two header words, and no other byte
+pub step-same : (t u : List ℕ) (at : ℕ) → length t ≡ length u → headerAt t at ≡ headerAt u at → headerAt t (at + 4) ≡ headerAt u (at + 4)
+    → stepAt t at ≡ stepAt u at
+unfolding stepAt endStep sectionStep
+step-same t u at long size address = rw (long, size, address) refl
 
 -- ---- sections and the end, as facts
 
@@ -90,7 +71,6 @@ pub record IsSection (t : List ℕ) (at address size start next : ℕ) : Type 0 
   pub size-is : size ≡ headerAt t at
   pub address-is : address ≡ headerAt t (at + 4)
   pub top : address + size ≤ 2 ^ 32
-  pub zeros : allZero (padsAt t at size) ≡ true
 
 -- where the facts of a section hold the step finds it
 pub section-step : (t : List ℕ) (at : ℕ) {address size start next : ℕ} → IsSection t at address size start next → stepAt t at ≡ Section address size start next
@@ -101,7 +81,6 @@ section-step t at {address} {size} i =
     (simp (
       le-ltb (length t) (at + 8 + size + padCount size) (omega (arith, i .within, i .next-is)),
       le-ltb (2 ^ 32) (address + size) (i .top),
-      i .zeros,
     ))
 
 -- a zero word at the end of the table is its end
@@ -143,9 +122,7 @@ step-says t at s e =
     (λ h3. fault-says t at _ _ s (omega arith, omega arith, λ h. h))
     (λ h3 e3. if-split (ltb (2 ^ 32) (headerAt t (at + 4) + headerAt t at)) _ _ s e3
     (λ h4. fault-says t at _ _ s (omega arith, omega arith, λ h. h))
-    (λ h4 e4. if-split (not (allZero (padsAt t at (headerAt t at)))) _ _ s e4
-    (λ h5. fault-says t at _ _ s (omega arith, omega arith, λ h. h))
-    (λ h5. section-says t at _ _ _ _ s (record {
+    (λ h4. section-says t at _ _ _ _ s (record {
       start-is = refl;
       next-is = refl;
       within = ltb-false _ _ h3;
@@ -154,8 +131,7 @@ step-says t at s e =
       size-is = refl;
       address-is = refl;
       top = ltb-false _ _ h4;
-      zeros = not-false _ h5;
-    }))))))
+    })))))
 
 -- a section that the step finds has its facts
 pub section-of : (t : List ℕ) (at : ℕ) {address size start next : ℕ} → stepAt t at ≡ Section address size start next → IsSection t at address size start next
@@ -197,6 +173,6 @@ module _ (t : List ℕ) (at : ℕ) {address size start next : ℕ} (i : IsSectio
   length-body = length-take-le size (drop (at + 8) t) (simp length-drop (omega (arith, i .next-is, i .within)))
 
   -- and as many pads as follow from its size
-  pub length-pads : length (padsAt t at size) ≡ padCount size
-  unfolding padsAt
+  pub length-pads : length (sectionAt t at address size .pads) ≡ padCount size
+  unfolding sectionAt
   length-pads = length-take-le (padCount size) (drop (at + 8 + size) t) (simp length-drop (omega (arith, i .next-is, i .within)))

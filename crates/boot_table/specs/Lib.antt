@@ -3,3 +3,4 @@ pub mod Form
 pub mod Walk
 pub mod Meaning
 pub mod Valid
+pub mod Pads

@@ -1,12 +1,11 @@
 -- The boot table: its sections, its bytes, and what a walk over it finds. t is a table.
 use Prim.Native.Nat.{ℕ, zero, suc, _+_, _^_}
 use mathlib.Core.List.{List, [], _∷_, _++_}
-use mathlib.Core.Bool.{Bool, true, false, not}
 use lib.ListN.{length, take, drop}
 use lib.Dec.{ltb, eqb}
 use Rattle.words.specs.Choice.{if}
 use Rattle.words.specs.Word.{wordAt, wordBytes, padCount}
-use Rattle.words.specs.Refusal.{TABLE-CUT, PAD-NOT-ZERO, BYTES-AFTER, PAST-TOP}
+use Rattle.words.specs.Refusal.{TABLE-CUT, BYTES-AFTER, PAST-TOP}
 use Rattle.boot_table.specs.declared.Step.{Step}
 use Rattle.boot_table.specs.declared.Step.the-variants.{Section, End, Fault}
 
@@ -46,14 +45,6 @@ tableOf entry ss = headerBytes entry ++ chunks ss ++ headerBytes 0
 
 -- ---- the walk step
 
-unfoldable pub allZero : List ℕ → Bool
-allZero [] = true
-allZero (x ∷ xs) = if (eqb x 0) (allZero xs) false
-
--- the pad bytes of the section of size data bytes at offset at
-unfoldable pub padsAt : List ℕ → ℕ → ℕ → List ℕ
-padsAt t at size = take (padCount size) (drop (at + 8 + size) t)
-
 -- the offset after the section of size data bytes at offset at
 unfoldable pub nextOf : ℕ → ℕ → ℕ
 nextOf at size = at + 8 + size + padCount size
@@ -62,13 +53,12 @@ nextOf at size = at + 8 + size + padCount size
 unfoldable pub endStep : List ℕ → ℕ → Step
 endStep t at = if (ltb (at + 4) (length t)) (Fault BYTES-AFTER (at + 4)) End
 
--- a section at offset at, of size data bytes for an address: it is cut short, or past the top, or has a pad that is not zero, or is whole
+-- a section at offset at, of size data bytes for an address: it is cut short (its pads count), or past the top, or whole
 unfoldable pub sectionStep : List ℕ → ℕ → ℕ → ℕ → Step
 sectionStep t at size address =
     if (ltb (length t) (nextOf at size)) (Fault TABLE-CUT at)
     (if (ltb (2 ^ 32) (address + size)) (Fault PAST-TOP at)
-    (if (not (allZero (padsAt t at size))) (Fault PAD-NOT-ZERO at)
-    (Section address size (at + 8) (nextOf at size))))
+    (Section address size (at + 8) (nextOf at size)))
 
 -- the walk step: what stands at offset at
 unfoldable pub stepAt : List ℕ → ℕ → Step
@@ -88,9 +78,10 @@ pub record Reading : Type 0 where
 abbrev pub stop : ℕ → ℕ → Reading
 stop number place = record { sections = []; fault = number; place = place }
 
--- the section at offset at
+-- the section at offset at: its data behind the two header words, and its pads, whatever they hold, behind the data
 unfoldable pub sectionAt : List ℕ → ℕ → ℕ → ℕ → Sect
-sectionAt t at address size = record { address = address; body = take size (drop (at + 8) t); pads = padsAt t at size }
+sectionAt t at address size =
+    record { address = address; body = take size (drop (at + 8) t); pads = take (padCount size) (drop (at + 8 + size) t) }
 
 unfoldable pub before : Sect → Reading → Reading
 before s r = record { sections = s ∷ r .sections; fault = r .fault; place = r .place }

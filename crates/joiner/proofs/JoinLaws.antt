@@ -14,7 +14,7 @@ use Rattle.boot_table.specs.Form.{tableLimit, formOf, WellFormed}
 use Rattle.boot_table.proofs.FormLaws.{form-well, well-form}
 use Rattle.boot_table.proofs.HeaderLaws.{header-lt}
 use Rattle.boot_table.proofs.RoundTrip.{chunks-append, length-table, length-read, read-head, read-middle, read-zero}
-use Rattle.boot_table.proofs.RoundTrip.{read-table, entry-table, table-read, valid-read, zeros-read, all-append}
+use Rattle.boot_table.proofs.RoundTrip.{read-table, entry-table, table-read, valid-read, all-append}
 use Rattle.joiner.specs.declared.Joined.{Joined}
 use Rattle.joiner.specs.Join.{joined, joinedLength, sectionBytes, joinAnswer, joinOutput}
 use Rattle.joiner.proofs.AnswerLaws.{first-refused, second-refused, join-long, output-short, join-done, output-kept, output-joined}
@@ -24,7 +24,7 @@ use Rattle.joiner.proofs.AnswerLaws.{first-refused, second-refused, joi
 -- the join has the entry of the second table
 pub entry-joined : (a b : List ℕ) → Bytes b → entryOf (joined a b) ≡ entryOf b
 unfolding joined
-entry-joined a b q = entry-table (entryOf b) (reading a .sections ++ reading b .sections) (header-lt b 0 q)
+entry-joined a b q = entry-table (entryOf b) _ (header-lt b 0 q)
 
 -- a first table without sections leaves the second as it is
 pub join-none-left : (a b : List ℕ) → Bytes b → WellFormed a → WellFormed b → reading a .sections ≡ [] → joined a b ≡ b
@@ -53,7 +53,7 @@ module _ (a b : List ℕ) (p : Bytes a) (q : Bytes b) (v : WellFormed a) (w : We
   -- it reads as the sections of the first and then of the second, without a fault
   pub reading-joined : reading (joined a b) ≡ record { sections = reading a .sections ++ reading b .sections; fault = 0; place = 0 }
   unfolding joined
-  reading-joined = read-table (entryOf b) (reading a .sections ++ reading b .sections) (all-append (valid-read a p v) (valid-read b q w)) (all-append (zeros-read a p v) (zeros-read b q w))
+  reading-joined = read-table (entryOf b) (reading a .sections ++ reading b .sections) (all-append (valid-read a p v) (valid-read b q w))
 
   -- it is made of bytes
   pub bytes-joined : Bytes (joined a b)

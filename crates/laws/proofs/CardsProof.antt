@@ -7,7 +7,7 @@ use lib.ListN.{length}
 use Rattle.words.specs.Word.{wordAt, wordBytes, padCount}
 use Rattle.region_map.specs.Map.{marked, permitted, reserved, known, zeroed, holds, shares, sharesAny, soundAt, faultFrom, mapFault}
 use Rattle.region_map.specs.Map.{anyHolds, isOpen, closedFrom, sizeBefore, holder, placeOf, faultAnswer, mapAnswer}
-use Rattle.boot_table.specs.Table.{headerAt, headerBytes, chunk, chunks, tableOf, allZero, padsAt, nextOf, endStep, sectionStep, stepAt, sectionAt}
+use Rattle.boot_table.specs.Table.{headerAt, headerBytes, chunk, chunks, tableOf, nextOf, endStep, sectionStep, stepAt, sectionAt}
 use Rattle.boot_table.specs.Table.{before, onStep, readFrom, readOn, reading}
 use Rattle.boot_table.specs.Form.{total, readForm, formOf}
 use Rattle.loader.specs.declared.Answer.{Answer}
@@ -66,7 +66,7 @@ unfoldable everything : Unit {0}
 unfolding given named wordAt wordBytes padCount headerAt headerBytes
     marked permitted reserved known zeroed holds shares sharesAny soundAt faultFrom mapFault
     anyHolds isOpen closedFrom sizeBefore holder placeOf faultAnswer mapAnswer
-    chunk chunks tableOf allZero padsAt nextOf endStep sectionStep stepAt sectionAt before onStep readFrom readOn reading
+    chunk chunks tableOf nextOf endStep sectionStep stepAt sectionAt before onStep readFrom readOn reading
     total readForm formOf storeBytes storeAll accepted mapRule formFirst tableAnswer loadAnswer loadMemory
     joined joinedLength joinAnswer joinOutput
     ones rising fit indexOf masked changedBits unmaskedAt entryAt onEntry appliedFrom applied configAnswer configValues

@@ -13,7 +13,7 @@ use Rattle.boot_table.specs.Table.{Sect, Reading, chunk, chunks, tableOf, entry
 use Rattle.boot_table.specs.Form.{WellFormed}
 use Rattle.boot_table.specs.Meaning.{covers, byteFor, lastByte}
 use Rattle.boot_table.specs.Valid.{All, none as all-none, also}
-use Rattle.boot_table.proofs.RoundTrip.{length-table, table-read, read-table, entry-table, valid-read, zeros-read}
+use Rattle.boot_table.proofs.RoundTrip.{length-table, table-read, read-table, entry-table, valid-read}
 use Rattle.loader.specs.Load.{loadAnswer, loadMemory, Opens, Accepted}
 use Rattle.loader.proofs.SameLaws.{same-memory}
 use Rattle.loader.proofs.LoadLaws.{accepted-iff, accepted-memory, loaded-at}
@@ -67,7 +67,7 @@ module _ (t m mem : List ℕ) (x y : Sect) (bytes : Bytes t) (s : TwoSections t 
   k = accepted-iff m t (length mem) .0 (s .accepted)
 
   read-swapped : reading (swapOf t x y) ≡ record { sections = y ∷ x ∷ []; fault = 0; place = 0 }
-  read-swapped = read-table (entryOf t) (y ∷ x ∷ []) (all-swap (rw (s .sections) at (valid-read t bytes (k .form)))) (all-swap (rw (s .sections) at (zeros-read t bytes (k .form))))
+  read-swapped = read-table (entryOf t) (y ∷ x ∷ []) (all-swap (rw (s .sections) at (valid-read t bytes (k .form))))
 
   sections-swapped : reading (swapOf t x y) .sections ≡ y ∷ x ∷ []
   sections-swapped = ap (λ (r : Reading). r .sections) read-swapped

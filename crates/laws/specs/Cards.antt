@@ -74,6 +74,14 @@ memory =
 abbrev pub output : List ℕ
 output = replicate 36 0xEE
 
+-- the answer of P, and the memory after it was loaded
+abbrev pub answerP : Answer
+answerP = accept 0x00800000 true 1 3
+
+abbrev pub memoryP : List ℕ
+memoryP =
+    0x10 ∷ 0x11 ∷ 0xA1 ∷ 0xA2 ∷ 0xA3 ∷ 0x15 ∷ 0x16 ∷ 0x17 ∷ 0x18 ∷ 0x19 ∷ 0x1A ∷ 0x1B ∷ 0x1C ∷ 0x1D ∷ 0x1E ∷ 0x1F ∷ []
+
 -- P joined with Q, and Q with P
 abbrev pub joinPQ : List ℕ
 joinPQ =
@@ -138,12 +146,11 @@ bothMasks =
 
 -- ---- the cards
 
--- the twelve cards of document 01
+-- the twelve cards of document 01, card 6 as request 2 of document 02 has it
 abbrev pub cards : List Card
 cards =
     -- 1: P under M
-    Load mapM tableP memory (accept 0x00800000 true 1 3)
-    (0x10 ∷ 0x11 ∷ 0xA1 ∷ 0xA2 ∷ 0xA3 ∷ 0x15 ∷ 0x16 ∷ 0x17 ∷ 0x18 ∷ 0x19 ∷ 0x1A ∷ 0x1B ∷ 0x1C ∷ 0x1D ∷ 0x1E ∷ 0x1F ∷ []) ∷
+    Load mapM tableP memory answerP memoryP ∷
     -- 2: P joined with Q, and that loaded
     Join tableP tableQ output (success 32 2) (joinPQ ++ replicate 4 0xEE) ∷
     Load mapM joinPQ memory (accept 0x00800004 true 2 4)
@@ -159,8 +166,8 @@ cards =
     Load mapM [] memory (refuse 5 0 0) memory ∷
     Load mapM shortP memory (refuse 5 16 0) memory ∷
     Load mapM longP memory (refuse 7 20 0) memory ∷
-    -- 6: P with its pad byte 01
-    Load mapM paddedP memory (refuse 6 4 0) memory ∷
+    -- 6: P with its pad byte 01 has P's answer and leaves P's memory
+    Load mapM paddedP memory answerP memoryP ∷
     -- 7: size 1 at 0x0080000F, and size 2
     Load mapM lastByteTable memory (accept 0x00800000 true 1 1)
     (0x10 ∷ 0x11 ∷ 0x12 ∷ 0x13 ∷ 0x14 ∷ 0x15 ∷ 0x16 ∷ 0x17 ∷ 0x18 ∷ 0x19 ∷ 0x1A ∷ 0x1B ∷ 0x1C ∷ 0x1D ∷ 0x1E ∷ 0xC1 ∷ []) ∷

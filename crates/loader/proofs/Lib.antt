@@ -5,3 +5,4 @@ pub mod AnswerLaws
 pub mod LoadLaws
 pub mod SameLaws
 pub mod AcceptLaws
+pub mod PadLaws

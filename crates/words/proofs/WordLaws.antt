@@ -4,7 +4,7 @@ use mathlib.Core.List.{List, [], _∷_, _++_}
 use Prim.Native.Nat.{ℕ, zero, suc, _+_, _-_, _*_, _/_, _%_, _≤_, _<_, _^_}
 use native.Mathlib.Omega.{arith}
 use native.Mathlib.Nat.{add-zero, add-assoc, mod-eq-of-lt, div-div-eq-div-mul}
-use lib.ListN.{length, take, drop, length-drop}
+use lib.ListN.{length, getD, take, drop, length-drop}
 use lib.Seq.{getD-append-add, getD-drop}
 use Rattle.words.specs.Word.{Bytes, wordAt, wordBytes, padCount}
 
@@ -76,6 +76,13 @@ bytes-word t i b h = rw (← (word-drop t i)) (bytes-word-front (drop i t) (byte
 pub word-lt : (t : List ℕ) (i : ℕ) → Bytes t → wordAt t i < 2 ^ 32
 unfolding wordAt
 word-lt t i b = omega (arith, b i, b (i + 1), b (i + 2), b (i + 3))
+
+-- where two lists have the same four bytes they have the same word
+pub word-same : (t u : List ℕ) (i : ℕ) → ((k : ℕ) → k < 4 → getD t (i + k) 0 ≡ getD u (i + k) 0) → wordAt t i ≡ wordAt u i
+unfolding wordAt
+word-same t u i same =
+    let first : getD t i 0 ≡ getD u i 0 = rw add-zero at (same 0 (omega arith)) in
+    rw (first, same 1 (omega arith), same 2 (omega arith), same 3 (omega arith)) refl
 
 -- pads end at a multiple of four, and are fewer than four
 pub pad-lt : (n : ℕ) → padCount n < 4

@@ -21,9 +21,7 @@ TABLE-LONG = 4
 abbrev pub TABLE-CUT : ℕ
 TABLE-CUT = 5
 
--- a pad byte is not zero
-abbrev pub PAD-NOT-ZERO : ℕ
-PAD-NOT-ZERO = 6
+-- 6 is withdrawn and not used again
 
 -- bytes stand after the zero word
 abbrev pub BYTES-AFTER : ℕ

@@ -15,8 +15,7 @@ pub const TABLE_LONG: u32 = 4;
 // The boot table is cut short.
 pub const TABLE_CUT: u32 = 5;
 
-// A pad byte is not zero.
-pub const PAD_NOT_ZERO: u32 = 6;
+// 6 is withdrawn and not used again.
 
 // Bytes stand after the zero word.
 pub const BYTES_AFTER: u32 = 7;

@@ -199,15 +199,16 @@ impl Rows {
     }
 }
 
-/// A table of sections of one size, one at each address.
+/// A table of sections of one size, one at each address, with any pads.
 fn even_table(numbers: &mut Numbers, addresses: &[u32], size: usize) -> Vec<u8> {
-    let data = numbers.bytes(addresses.len() * size);
-    let sections: Vec<(u32, &[u8])> = addresses
+    let padded = size.next_multiple_of(4);
+    let bytes = numbers.bytes(addresses.len() * padded);
+    let sections: Vec<(u32, &[u8], &[u8])> = addresses
         .iter()
-        .copied()
-        .zip(data.chunks_exact(size))
+        .zip(bytes.chunks_exact(padded))
+        .map(|(address, bytes)| (*address, &bytes[..size], &bytes[size..]))
         .collect();
-    cases::table(BASE, &sections)
+    cases::padded_table(BASE, &sections)
 }
 
 /// A table of a length; its sections have one size, and the last one takes

@@ -74,10 +74,10 @@ add-end : tie.Need-add-end Inv-loop μ-loop
 add-end c = omega (arith, section-of _ _ (step-is c))
 
 sub-store-section : tie.Need-sub-store-section Inv-loop μ-loop
-sub-store-section c = omega arith
+sub-store-section c = omega (arith, section-of _ _ (step-is (c .before)))
 
 part-store-section-start : tie.Need-part-store-section-start Inv-loop μ-loop
-part-store-section-start c = omega arith
+part-store-section-start c = omega (arith, section-of _ _ (step-is (c .before)))
 
 part-store-section-end : tie.Need-part-store-section-end Inv-loop μ-loop
 part-store-section-end c = omega (arith, section-of _ _ (step-is (c .before)))
