@@ -549,7 +549,8 @@ fn damage_table(numbers: &mut Numbers, bytes: &mut Vec<u8>, sections: &[Section]
                 set_word(bytes, at + 4, value);
             }
             // A pad byte is changed, which alone is no damage; at times the
-            // address is the highest as well, past which two bytes run.
+            // address is the highest as well, so that two or more data bytes
+            // run past the top.
             2 if data_end < end => {
                 let spot = data_end + numbers.index(end - data_end);
                 bytes[spot] = numbers.pick(&[0, 1, 2, 128, 255]);
