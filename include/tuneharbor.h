@@ -23,6 +23,13 @@
 extern "C" {
 #endif
 
+/* So many bytes of stack are enough for one call of tuneharbor_judge or of
+ * tuneharbor_load, on x86-64; examples/stack.c measures what they take. Some of
+ * the bytes lie below the stack pointer, as the System V calling convention
+ * for x86-64 allows: what interrupts a call on the same stack must leave the
+ * 128 bytes there as they are, and the stack that it needs is not counted. */
+#define TUNEHARBOR_STACK 1024
+
 /* The numbers of the refusals. */
 enum {
     TUNEHARBOR_MAP_LENGTH = 1,       /* the map's length is no multiple of 12, or over 768 */

@@ -1,0 +1,191 @@
+/* Measures how many bytes of stack one call of judge and one of load take.
+ *
+ *   rt staticlib tuneharbor
+ *   cc -std=c99 -Wall -Wextra -Werror -Iinclude examples/stack.c target/staticlib/libtuneharbor.a -o target/stack
+ *   target/stack
+ *
+ * A call runs on a stack of its own, painted first (filled with one value): the
+ * lowest byte that has changed says how deep the call went. It prints the most
+ * that any of the cases below took, and fails where that is over
+ * TUNEHARBOR_STACK or where a case is not answered as it should be. For x86-64,
+ * glibc, and gcc or clang. */
+#define _XOPEN_SOURCE 600
+#include <inttypes.h>
+#include <stdio.h>
+#include <string.h>
+#include <ucontext.h>
+
+#include "tuneharbor.h"
+
+typedef void judge_call(const uint8_t *, size_t, const uint8_t *, size_t, uint64_t *);
+typedef void load_call(const uint8_t *, size_t, const uint8_t *, size_t, uint8_t *, size_t, uint64_t *);
+
+/* What is passed. */
+static uint8_t map[768];
+static uint8_t table[1024];
+static size_t table_len;
+static uint8_t memory[63 * 16];
+static uint64_t answer[7];
+
+/* What is called: volatile, so that the same instruction calls the function and
+ * its stand-in. */
+static judge_call *volatile judge;
+static load_call *volatile load;
+
+/* ---- the painted stack */
+
+static unsigned char stack[16384];
+static ucontext_t here, there;
+
+static void call_judge(void)
+{
+    judge(map, sizeof map, table, table_len, answer);
+}
+
+static void call_load(void)
+{
+    load(map, sizeof map, table, table_len, memory, sizeof memory, answer);
+}
+
+/* Makes a call on the stack in one paint, and answers the lowest byte that the
+ * call changed. */
+static const unsigned char *lowest_in(unsigned char paint, void (*call)(void))
+{
+    const unsigned char *byte = stack;
+
+    memset(stack, paint, sizeof stack);
+    getcontext(&there);
+    there.uc_stack.ss_sp = stack;
+    there.uc_stack.ss_size = sizeof stack;
+    there.uc_link = &here;
+    makecontext(&there, call, 0);
+    swapcontext(&here, &there);
+    while (*byte == paint)
+        byte++;
+    return byte;
+}
+
+/* The same in two paints, since a call may write a byte that is as painted. */
+static const unsigned char *lowest(void (*call)(void))
+{
+    const unsigned char *one = lowest_in(0xA5, call);
+    const unsigned char *other = lowest_in(0x5A, call);
+
+    return one < other ? one : other;
+}
+
+/* ---- where a call begins */
+
+/* Where the stack pointer stood before a call. A stand-in for the call finds it:
+ * at its frame address are the caller's frame pointer and the return address,
+ * and above them is where it stood. */
+static const unsigned char *top;
+
+static void judge_top(const uint8_t *m, size_t m_len, const uint8_t *t, size_t t_len, uint64_t *a)
+{
+    (void)m, (void)m_len, (void)t, (void)t_len, (void)a;
+    top = (const unsigned char *)__builtin_frame_address(0) + 2 * sizeof(void *);
+}
+
+static void load_top(const uint8_t *m, size_t m_len, const uint8_t *t, size_t t_len, uint8_t *b, size_t b_len,
+                     uint64_t *a)
+{
+    (void)m, (void)m_len, (void)t, (void)t_len, (void)b, (void)b_len, (void)a;
+    top = (const unsigned char *)__builtin_frame_address(0) + 2 * sizeof(void *);
+}
+
+static size_t stack_of_judge(void)
+{
+    judge = judge_top;
+    lowest(call_judge); /* sets top */
+    judge = tuneharbor_judge;
+    return (size_t)(top - lowest(call_judge));
+}
+
+static size_t stack_of_load(void)
+{
+    load = load_top;
+    lowest(call_load); /* sets top */
+    load = tuneharbor_load;
+    return (size_t)(top - lowest(call_load));
+}
+
+/* ---- the cases */
+
+/* They differ in the last record of the map and in the table's length. The other
+ * 63 records are permitted, and their addresses touch, in an order in which no
+ * two neighbours of the map do. The table's section goes through all of them. */
+static const struct {
+    uint8_t kind;
+    uint32_t first;
+    size_t table_len;
+    uint64_t number;
+} cases[] = {
+    {2, 0x00900000, 1016, 0},                      /* accepted */
+    {2, 0x00800100, 1016, TUNEHARBOR_NOT_OPEN},    /* a reserved address in the section */
+    {2, 0x00800100, 1020, TUNEHARBOR_BYTES_AFTER}, /* and a fault of the form after it */
+    {2, 0x00900000, 1012, TUNEHARBOR_TABLE_CUT},
+    {7, 0x00900000, 1016, TUNEHARBOR_MAP_RECORD},
+};
+
+static void put_word(uint8_t *at, uint32_t word)
+{
+    at[0] = (uint8_t)(word >> 24);
+    at[1] = (uint8_t)(word >> 16);
+    at[2] = (uint8_t)(word >> 8);
+    at[3] = (uint8_t)word;
+}
+
+static void put_record(size_t index, uint8_t kind, uint32_t first)
+{
+    uint8_t *at = map + 12 * index;
+
+    at[0] = 0x52;
+    at[1] = 0x47;
+    at[2] = kind;
+    at[3] = 0;
+    put_word(at + 4, first);
+    put_word(at + 8, 16);
+}
+
+/* The most that a call takes in any of the cases, or 0 where one is not answered
+ * as it should be. */
+static size_t most(size_t (*stack_of)(void))
+{
+    size_t i, used, highest = 0;
+
+    for (i = 0; i < sizeof cases / sizeof cases[0]; i++) {
+        put_record(63, cases[i].kind, cases[i].first);
+        table_len = cases[i].table_len;
+        answer[0] = UINT64_MAX;
+        used = stack_of();
+        highest = used > highest ? used : highest;
+        if (answer[0] != cases[i].number) {
+            fprintf(stderr, "case %zu is answered with %" PRIu64 ", not %" PRIu64 "\n", i, answer[0],
+                    cases[i].number);
+            return 0;
+        }
+    }
+    return highest;
+}
+
+int main(void)
+{
+    size_t i, judge_stack, load_stack;
+
+    for (i = 0; i < 63; i++)
+        put_record(i, 1, 0x00800000 + 16 * (uint32_t)(i * 2 % 63));
+    put_word(table, 0x00800000);
+    put_word(table + 4, 1000);
+    put_word(table + 8, 0x00800000);
+    judge_stack = most(stack_of_judge);
+    load_stack = most(stack_of_load);
+    if (judge_stack == 0 || load_stack == 0)
+        return 1;
+    printf("judge: %zu bytes of stack\nload: %zu bytes of stack\n", judge_stack, load_stack);
+    if (judge_stack > TUNEHARBOR_STACK || load_stack > TUNEHARBOR_STACK) {
+        fprintf(stderr, "that is over %d\n", TUNEHARBOR_STACK);
+        return 1;
+    }
+    return 0;
+}
