@@ -1,4 +1,5 @@
-/* Judges, joins and loads two small tables, and prints what each call answers.
+/* Judges, joins and loads two small tables, decodes two strap values, and prints
+ * what each call answers.
  *
  *   rt staticlib tuneharbor
  *   cc -std=c99 -Wall -Wextra -Werror -Iinclude examples/bench.c target/staticlib/libtuneharbor.a -o target/bench
@@ -81,6 +82,40 @@ static size_t join(const char *what, const uint8_t *first, size_t first_len,
     return (size_t)answer[3];
 }
 
+static void print_strap(const char *what, uint32_t value, const uint64_t answer[9])
+{
+    size_t i;
+
+    printf("%s of strap %" PRIu32 ": number %" PRIu64 ", place %" PRIu64
+           ", kind %" PRIu64 ", fields",
+           what, value, answer[0], answer[1], answer[2]);
+    for (i = 3; i < 9; i++)
+        printf(" %" PRIu64, answer[i]);
+    printf("\n");
+}
+
+/* A strap value through each entry; it is compared with 160. */
+static void strap(uint32_t value)
+{
+    uint64_t decoded[9];
+    uint64_t answer[3];
+
+    tuneharbor_strap_short(value, decoded);
+    print_strap("short entry", value, decoded);
+    tuneharbor_strap(value, true, decoded);
+    print_strap("strict manner", value, decoded);
+    tuneharbor_strap(value, false, decoded);
+    print_strap("lenient manner", value, decoded);
+    tuneharbor_strap_same(160, value, answer);
+    printf("straps 160 and %" PRIu32 ": number %" PRIu64 ", place %" PRIu64
+           ", same %" PRIu64 "\n",
+           value, answer[0], answer[1], answer[2]);
+    tuneharbor_strap_label(value, answer);
+    printf("label of strap %" PRIu32 ": number %" PRIu64 ", place %" PRIu64
+           ", label %" PRIu64 "\n",
+           value, answer[0], answer[1], answer[2]);
+}
+
 int main(void)
 {
     uint64_t answer[3];
@@ -118,5 +153,10 @@ int main(void)
          15, output);
     print_bytes("output as it was", output, sizeof output);
     load("load P cut before its pad", table_p, 15);
+
+    /* EMIF16 with wait; and the same with reserved bit 8 one, which is refused
+     * unless lenient is named. The comparison and the label name it. */
+    strap(160);
+    strap(416);
     return 0;
 }

@@ -111,8 +111,15 @@ void tuneharbor_configure(const uint8_t *table, size_t table_len,
                           uint32_t *values, size_t values_len,
                           uint64_t answer[4]);
 
-/* Decodes a strap value. Where strict is true, reserved bits are judged; else
- * they are ignored.
+/* Decodes a strap value; its device is bits 2:0. A value over 8,191 is refused
+ * with TUNEHARBOR_STRAP_LONG, and sub-modes 2 and 3 (bits 6:5) of device 0 with
+ * TUNEHARBOR_STRAP_RESERVED.
+ *
+ * Where strict is true, a value with a wrong reserved bit has that refusal too:
+ * bits 9:8 of device 0 and bit 9 of PCIe (device 4) have to be zero; of passive
+ * I2C (device 5 with bit 8 one) bit 9 has to be one and bits 4:3 zero. This is
+ * the strict manner. Where strict is false, these bits are ignored; this is the
+ * lenient manner.
  *
  * answer[0] number
  * answer[1] place, always 0
@@ -130,21 +137,23 @@ void tuneharbor_configure(const uint8_t *table, size_t table_len,
  * kind 7, SPI:          mode, five pins, wide address, chip select, table, SR */
 void tuneharbor_strap(uint32_t value, bool strict, uint64_t answer[9]);
 
-/* Decodes a strap value where no manner is named: reserved bits are ignored.
+/* Decodes a strap value where no manner is named: in the strict manner.
  *
  * answer[0] to answer[8] as for tuneharbor_strap */
 void tuneharbor_strap_short(uint32_t value, uint64_t answer[9]);
 
-/* Whether two strap values have one kind and equal fields. Reserved bits are
- * ignored. The first value's refusal comes before the second's.
+/* Whether two strap values have one kind and equal fields, in the lenient
+ * manner: reserved bits are ignored. A value over 8,191 and sub-modes 2 and 3 of
+ * device 0 are refused; the first value's refusal comes before the second's.
  *
  * answer[0] number
  * answer[1] place, always 0
  * answer[2] 1 where they are the same, else 0 */
 void tuneharbor_strap_same(uint32_t first, uint32_t second, uint64_t answer[3]);
 
-/* The board label's number of a strap value: its kind. Reserved bits are
- * ignored.
+/* The board label's number of a strap value, which is its kind, in the lenient
+ * manner: reserved bits are ignored. A value over 8,191 and sub-modes 2 and 3 of
+ * device 0 are refused.
  *
  * answer[0] number
  * answer[1] place, always 0

@@ -697,7 +697,7 @@ pub fn strap(value: u32, strict: bool) -> StrapAnswer {
 }
 
 pub fn strap_short(value: u32) -> StrapAnswer {
-    strap(value, false)
+    strap(value, true)
 }
 
 pub fn strap_same(first: u32, second: u32) -> SameAnswer {

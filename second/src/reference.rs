@@ -1,7 +1,7 @@
-//! Document 01, as request 2 of document 02 mends it, read once more in plain
-//! Rust: the map, the boot table, judging, loading, the join, the configuration
-//! table, the strap value and the lister's text. Addresses are looked at one by
-//! one and bytes are copied one by one; nothing here is quick.
+//! Document 01, as requests 2 and 7 of document 02 mend it, read once more in
+//! plain Rust: the map, the boot table, judging, loading, the join, the
+//! configuration table, the strap value and the lister's text. Addresses are
+//! looked at one by one and bytes are copied one by one; nothing here is quick.
 
 /// Most bytes in a map: 64 records of 12.
 pub const MAP_LIMIT: usize = 768;
@@ -592,16 +592,16 @@ pub fn strap(value: u32, strict: bool) -> StrapAnswer {
     }
 }
 
-/// The entry that names no manner is lenient.
+/// The entry that names no manner is strict.
 pub fn strap_short(value: u32) -> StrapAnswer {
-    strap(value, false)
+    strap(value, true)
 }
 
-/// Whether two strap values have one kind and equal fields; the first value's
-/// refusal comes before the second's.
+/// Whether two strap values have one kind and equal fields, in the lenient
+/// manner; the first value's refusal comes before the second's.
 pub fn strap_same(first: u32, second: u32) -> SameAnswer {
-    let one = strap_short(first);
-    let two = strap_short(second);
+    let one = strap(first, false);
+    let two = strap(second, false);
     for answer in [one, two] {
         if answer.number != 0 {
             return SameAnswer {
@@ -616,9 +616,10 @@ pub fn strap_same(first: u32, second: u32) -> SameAnswer {
     }
 }
 
-/// The board label's number: the kind's place in the document's table.
+/// The board label's number, in the lenient manner: the kind's place in the
+/// document's table.
 pub fn strap_label(value: u32) -> LabelAnswer {
-    let answer = strap_short(value);
+    let answer = strap(value, false);
     LabelAnswer {
         number: answer.number,
         place: answer.place,

@@ -1,7 +1,7 @@
 //! Cases by name: the bench cards, what students write first, and bad inputs
-//! one by one. Expected values are written by hand from document 01 as request
-//! 2 of document 02 mends it, and both the library and the reference must give
-//! them.
+//! one by one. Expected values are written by hand from document 01 as requests
+//! 2 and 7 of document 02 mend it, and both the library and the reference must
+//! give them.
 
 use second::cases::{
     self, config, entries, map, padded_section, padded_table, record, table, Numbers,
@@ -205,22 +205,31 @@ fn strap_refused(number: u64) -> StrapAnswer {
     }
 }
 
-fn strap_gives(value: u32, strict: bool, expected: StrapAnswer) {
-    assert_eq!(calls::strap(value, strict), expected, "library, {value}");
-    assert_eq!(
-        reference::strap(value, strict),
-        expected,
-        "reference, {value}"
-    );
-    if !strict {
-        assert_eq!(calls::strap_short(value), expected, "short, {value}");
-        let label = LabelAnswer {
-            number: expected.number,
-            place: 0,
-            label: expected.kind,
-        };
-        assert_eq!(calls::strap_label(value), label, "label, {value}");
-    }
+/// What every strap call gives for a value, from its answers in the two manners.
+/// The entry that names no manner is strict; the comparison, here of the value
+/// with itself, and the label are lenient.
+fn strap_gives(value: u32, strict: StrapAnswer, lenient: StrapAnswer) {
+    let label = LabelAnswer {
+        number: lenient.number,
+        place: 0,
+        label: lenient.kind,
+    };
+    assert_eq!(calls::strap(value, true), strict, "strict, {value}");
+    assert_eq!(calls::strap(value, false), lenient, "lenient, {value}");
+    assert_eq!(calls::strap_short(value), strict, "short, {value}");
+    assert_eq!(calls::strap_label(value), label, "label, {value}");
+    let named = format!("reference, {value}");
+    assert_eq!(reference::strap(value, true), strict, "strict, {named}");
+    assert_eq!(reference::strap(value, false), lenient, "lenient, {named}");
+    assert_eq!(reference::strap_short(value), strict, "short, {named}");
+    assert_eq!(reference::strap_label(value), label, "label, {named}");
+    let decoded = u64::from(lenient.number == 0);
+    same_gives(value, value, lenient.number, decoded);
+}
+
+/// The same for a value that both manners answer alike.
+fn strap_gives_either(value: u32, expected: StrapAnswer) {
+    strap_gives(value, expected, expected);
 }
 
 fn same_gives(first: u32, second: u32, number: u64, same: u64) {
@@ -361,21 +370,20 @@ fn card_10_a_bit_in_both_masks() {
 
 #[test]
 fn card_11_strap_7878() {
-    for strict in [false, true] {
-        strap_gives(7878, strict, kind(7, [3, 1, 1, 1, 2, 0]));
-    }
+    strap_gives_either(7878, kind(7, [3, 1, 1, 1, 2, 0]));
 }
 
 #[test]
 fn card_12_straps_160_416_64_8192() {
     let waiting = kind(1, [0, 1, 0, 0, 0, 0]);
-    strap_gives(160, false, waiting);
-    strap_gives(160, true, waiting);
-    strap_gives(416, false, waiting);
-    strap_gives(416, true, strap_refused(19));
-    for strict in [false, true] {
-        strap_gives(64, strict, strap_refused(19));
-        strap_gives(8192, strict, strap_refused(18));
+    strap_gives_either(160, waiting);
+    // Refused unless lenient is named; the comparison and the label name it.
+    strap_gives(416, strap_refused(19), waiting);
+    strap_gives_either(64, strap_refused(19));
+    strap_gives_either(8192, strap_refused(18));
+    for (value, number, same) in [(160, 0, 1), (416, 0, 1), (64, 19, 0), (8192, 18, 0)] {
+        same_gives(160, value, number, same);
+        same_gives(value, 160, number, same);
     }
 }
 
@@ -1273,82 +1281,110 @@ fn bits_are_counted_between_before_and_after_the_whole_table() {
 
 #[test]
 fn each_kind_with_its_fields() {
-    for strict in [false, true] {
-        strap_gives(0, strict, kind(0, [0; 6]));
-        // SR 3, wait, clock select 5.
-        strap_gives(0b1_0100_1001_1000, strict, kind(0, [3, 1, 5, 0, 0, 0]));
-        strap_gives(0b1_0100_0011_0000, strict, kind(1, [2, 0, 5, 0, 0, 0]));
-        // Device, bits 9:3, clock select.
-        strap_gives(
-            0b0_1110_1000_1001,
-            strict,
-            kind(2, [1, 0b101_0001, 3, 0, 0, 0]),
-        );
-        strap_gives(8191, strict, kind(2, [7, 127, 7, 0, 0, 0]));
-        // Device, multiplier 2, connection 1, device ID 5, clock select 6.
-        strap_gives(0b1_1010_0110_1010, strict, kind(3, [2, 2, 1, 5, 6, 0]));
-        strap_gives(0b1_1010_0110_1011, strict, kind(3, [3, 2, 1, 5, 6, 0]));
-        // BAR 9, SR 1, clock select 4.
-        strap_gives(0b1_0001_0010_1100, strict, kind(4, [9, 1, 4, 0, 0, 0]));
-        // Bits 12:3 as a number.
-        strap_gives(
-            0b1_0110_1001_1101,
-            strict,
-            kind(5, [0b10_1101_0011, 0, 0, 0, 0, 0]),
-        );
-        // Passive, address 5.
-        strap_gives(0b0_0011_1010_0101, strict, kind(6, [5, 0, 0, 0, 0, 0]));
-        // Mode 1, four-pin, 24-bit, chip select 2, table 1, SR 3.
-        strap_gives(0b0_1011_0011_1110, strict, kind(7, [1, 0, 1, 2, 1, 3]));
-    }
+    strap_gives_either(0, kind(0, [0; 6]));
+    // SR 3, wait, clock select 5.
+    strap_gives_either(0b1_0100_1001_1000, kind(0, [3, 1, 5, 0, 0, 0]));
+    strap_gives_either(0b1_0100_0011_0000, kind(1, [2, 0, 5, 0, 0, 0]));
+    // Device, bits 9:3, clock select.
+    strap_gives_either(0b0_1110_1000_1001, kind(2, [1, 0b101_0001, 3, 0, 0, 0]));
+    strap_gives_either(8191, kind(2, [7, 127, 7, 0, 0, 0]));
+    // Device, multiplier 2, connection 1, device ID 5, clock select 6.
+    strap_gives_either(0b1_1010_0110_1010, kind(3, [2, 2, 1, 5, 6, 0]));
+    strap_gives_either(0b1_1010_0110_1011, kind(3, [3, 2, 1, 5, 6, 0]));
+    // BAR 9, SR 1, clock select 4.
+    strap_gives_either(0b1_0001_0010_1100, kind(4, [9, 1, 4, 0, 0, 0]));
+    // Bits 12:3 as a number.
+    strap_gives_either(0b1_0110_1001_1101, kind(5, [0b10_1101_0011, 0, 0, 0, 0, 0]));
+    // Passive, address 5.
+    strap_gives_either(0b0_0011_1010_0101, kind(6, [5, 0, 0, 0, 0, 0]));
+    // Mode 1, four-pin, 24-bit, chip select 2, table 1, SR 3.
+    strap_gives_either(0b0_1011_0011_1110, kind(7, [1, 0, 1, 2, 1, 3]));
 }
 
 #[test]
 fn reserved_bits_in_both_manners() {
+    let refused = strap_refused(19);
     // Device 0, bits 9:8.
     for bits in 1..=3 {
-        strap_gives(bits << 8, true, strap_refused(19));
-        strap_gives(bits << 8, false, kind(0, [0; 6]));
+        strap_gives(bits << 8, refused, kind(0, [0; 6]));
     }
     // PCIe, bit 9.
-    strap_gives(4 | 1 << 9, true, strap_refused(19));
-    strap_gives(4 | 1 << 9, false, kind(4, [0; 6]));
+    strap_gives(4 | 1 << 9, refused, kind(4, [0; 6]));
     // Passive I2C, bit 9 one and bits 4:3 zero.
     let passive = 5 | 1 << 8;
-    strap_gives(passive, true, strap_refused(19));
-    strap_gives(passive | 1 << 9, true, kind(6, [0; 6]));
+    strap_gives(passive, refused, kind(6, [0; 6]));
+    strap_gives_either(passive | 1 << 9, kind(6, [0; 6]));
     for low in 1..=3 {
-        strap_gives(passive | 1 << 9 | low << 3, true, strap_refused(19));
-        strap_gives(passive | low << 3, false, kind(6, [0; 6]));
+        strap_gives(passive | 1 << 9 | low << 3, refused, kind(6, [0; 6]));
+        strap_gives(passive | low << 3, refused, kind(6, [0; 6]));
     }
     // Sub-modes 2 and 3 in either manner.
-    for strict in [false, true] {
-        strap_gives(2 << 5, strict, strap_refused(19));
-        strap_gives(3 << 5, strict, strap_refused(19));
-    }
+    strap_gives_either(2 << 5, refused);
+    strap_gives_either(3 << 5, refused);
 }
 
 #[test]
 fn all_strap_values() {
     // Of each kind so many, and so many refused; counted from the bits.
-    let mut lenient = [0; 9];
     let mut strict = [0; 9];
+    let mut short = [0; 9];
+    let mut lenient = [0; 9];
+    let mut label = [0; 9];
     for value in 0..8192 {
-        strap_gives(value, false, reference::strap(value, false));
-        strap_gives(value, true, reference::strap(value, true));
-        for (manner, counts) in [(false, &mut lenient), (true, &mut strict)] {
-            let answer = calls::strap(value, manner);
+        strap_gives(
+            value,
+            reference::strap(value, true),
+            reference::strap(value, false),
+        );
+        let answers = [
+            (&mut strict, calls::strap(value, true)),
+            (&mut short, calls::strap_short(value)),
+            (&mut lenient, calls::strap(value, false)),
+        ];
+        for (counts, answer) in answers {
             let column = if answer.number == 0 { answer.kind } else { 8 };
             counts[column as usize] += 1;
         }
+        let answer = calls::strap_label(value);
+        let column = if answer.number == 0 { answer.label } else { 8 };
+        label[column as usize] += 1;
     }
-    assert_eq!(lenient, [256, 256, 2048, 2048, 1024, 512, 512, 1024, 512]);
     assert_eq!(strict, [64, 64, 2048, 2048, 512, 512, 64, 1024, 1856]);
+    assert_eq!(short, strict);
+    assert_eq!(lenient, [256, 256, 2048, 2048, 1024, 512, 512, 1024, 512]);
+    assert_eq!(label, lenient);
     for value in [8192, 8193, 16_384, 0x8000_0000, 0xFFFF_E000, 0xFFFF_FFFF] {
-        for manner in [false, true] {
-            strap_gives(value, manner, strap_refused(18));
+        strap_gives_either(value, strap_refused(18));
+    }
+}
+
+/// The short entry takes one setting of a value's reserved bits, and gives 19
+/// for every other; the comparison and the label take them all alike.
+#[test]
+fn one_setting_of_the_reserved_bits_unless_lenient_is_named() {
+    let mut refused = 0;
+    for value in 0..8192_u32 {
+        let (kind, reserved, setting) = match value % 8 {
+            0 if value >> 5 & 3 == 0 => (0, 3 << 8, 0),
+            0 if value >> 5 & 3 == 1 => (1, 3 << 8, 0),
+            4 => (4, 1 << 9, 0),
+            5 if value >> 8 & 1 == 1 => (6, 1 << 9 | 3 << 3, 1 << 9),
+            _ => continue,
+        };
+        let proper = value & !reserved | setting;
+        let decoded = calls::strap_short(proper);
+        assert_eq!((decoded.number, decoded.kind), (0, kind), "{proper}");
+        same_gives(value, proper, 0, 1);
+        same_gives(proper, value, 0, 1);
+        let answer = calls::strap_label(value);
+        assert_eq!((answer.number, answer.label), (0, kind), "{value}");
+        if value != proper {
+            assert_eq!(calls::strap_short(value), strap_refused(19), "{value}");
+            refused += 1;
         }
     }
+    // Of device 0 three of four, of PCIe half, of passive I2C seven of eight.
+    assert_eq!(refused, 512 * 3 / 4 + 1024 / 2 + 512 * 7 / 8);
 }
 
 #[test]

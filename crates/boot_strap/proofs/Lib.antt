@@ -1,1 +1,2 @@
 pub mod StrapLaws
+pub mod MannerLaws

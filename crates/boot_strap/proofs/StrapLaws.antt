@@ -1,28 +1,27 @@
--- Laws of the strap value: its bits, its numbers, the comparison and the two manners.
-use Prim.Native.Nat.{ℕ, zero, suc, _-_, _%_, _≤_, _<_}
+-- Laws of the strap value: its bits, its numbers and the comparison.
+use Prim.Native.Nat.{ℕ, zero, suc, _%_, _<_}
 use mathlib.Core.Path.{_≡_, refl, sym, ap, subst, _∙_}
-use mathlib.Core.Bool.{Bool, true, false, not, _&&_, _||_, Bool·beq, and-assoc, and-true}
+use mathlib.Core.Bool.{Bool, true, false, not, _&&_, Bool·beq, and-assoc, and-true}
 use mathlib.Core.List.{List, [], _∷_}
 use mathlib.Core.Logic.{_↔_}
 use native.Mathlib.Nat.{mod-lt}
 use native.Mathlib.Omega.{arith}
 use mir.Val.{boolByte, hasKey}
-use lib.Dec.{T, ltb, leb, eqb, lit<}
+use lib.Dec.{T, eqb, lit<}
 use lib.ListN.{getD}
-use borrow.Author.Tests.{eqb-true, eq-eqb, ne-eqb, le-ltb}
+use borrow.Author.Tests.{eqb-true, eq-eqb, ne-eqb}
 use denote.Enum.Declared.{tagOf}
 use types.Run.{OneOf, miss}
 use Rattle.words.specs.Choice.{if}
-use Rattle.words.proofs.ChoiceLaws.{and-yes, or-no}
+use Rattle.words.proofs.ChoiceLaws.{and-yes}
 use Rattle.boot_strap.proofs.Strap.{the-type}
 use Rattle.boot_strap.specs.declared.Manner.{Manner}
-use Rattle.boot_strap.specs.declared.Manner.the-variants.{Strict, Lenient}
 use Rattle.boot_strap.specs.declared.Strap.{Strap}
 use Rattle.boot_strap.specs.declared.Strap.the-variants.{Sleep, Emif16, Link, Ethernet, Pcie, I2cMaster, I2cPassive, Spi}
 use Rattle.boot_strap.specs.declared.StrapAnswer.{StrapAnswer}
 use Rattle.boot_strap.specs.declared.StrapAnswer.the-variants.{Decoded, Refused}
-use Rattle.boot_strap.specs.Strap.{strapLimit, bits, isDevice, strapOf, rowOf, isReserved, decodeAs, numbersAs}
-use Rattle.boot_strap.specs.Strap.{kindOf, fieldsOf, answerNumbers, sameList, sameStrap}
+use Rattle.boot_strap.specs.Strap.{strapOf, rowOf, decodeAs, numbersAs}
+use Rattle.boot_strap.specs.Strap.{kindOf, fieldsOf, answerNumbers, sameList, sameStrap, sameRefused, sameOf}
 
 -- ---- bits
 
@@ -130,6 +129,11 @@ same-iff s t = (
   λ e. rw (e, eqb-same (kindOf t)) (same-list (fieldsOf t)),
 )
 
+-- a first value that is refused decides, whatever the second is
+pub first-refused : (n p : ℕ) (a b : StrapAnswer) → Refused n p ≡ a → sameRefused n p ≡ sameOf a b
+unfolding sameOf
+first-refused n p a b e = ap (λ (x : StrapAnswer). sameOf x b) e
+
 -- the tag of a strap is its kind's place
 tag-kind : (s : Strap) → tagOf the-type s ≡ kindOf s
 unfolding kindOf
@@ -170,43 +174,3 @@ pub spi-same : (m n : ℕ) (f g w x : Bool) (c d t u r s : ℕ)
     → (eqb m n && Bool·beq f g && Bool·beq w x && eqb c d && eqb t u && eqb r s) ≡ sameStrap (Spi m f w c t r) (Spi n g x d u s)
 unfolding sameStrap kindOf fieldsOf sameList
 spi-same m n f g w x c d t u r s = simp (and-assoc, and-true, byte-beq)
-
--- ---- the two manners
-
--- leniently only sub-modes 2 and 3 of device 0 are reserved
-reserved-lenient : (v : ℕ) → isReserved false v ≡ (isDevice 0 v && leb 2 (bits 6 5 v))
-unfolding isReserved
-reserved-lenient v = go (isDevice 0 v) (leb 2 (bits 6 5 v)) (isDevice 4 v) (isDevice 5 v)
-  where
-    go : (a b c d : Bool) → if a (b || false) (if c false (if d false false)) ≡ (a && b)
-    go true true c d = refl
-    go true false c d = refl
-    go false b true d = refl
-    go false b false true = refl
-    go false b false false = refl
-
--- what the strict manner lets pass, the lenient one does
-reserved-less : (v : ℕ) → isReserved true v ≡ false → isReserved false v ≡ false
-unfolding isReserved
-reserved-less v e = reserved-lenient v ∙ go (isDevice 0 v) (leb 2 (bits 6 5 v)) _ _ e
-  where
-    go : (a b x y : Bool) → if a (b || x) y ≡ false → (a && b) ≡ false
-    go true b x y e = or-no b x e .0
-    go false b x y e = refl
-
--- leniently every 13-bit value is decoded but device 0 with sub-mode 2 or 3
-pub lenient-decodes : (v : ℕ) → v ≤ strapLimit → (isDevice 0 v && leb 2 (bits 6 5 v)) ≡ false → decodeAs Lenient v ≡ Decoded (strapOf v)
-unfolding decodeAs
-lenient-decodes v h n = rw (le-ltb strapLimit v h, reserved-lenient v, n)
-
--- what is decoded strictly is decoded alike leniently
-pub strict-lenient : (v : ℕ) (s : Strap) → decodeAs Strict v ≡ Decoded s → decodeAs Lenient v ≡ Decoded s
-unfolding decodeAs
-strict-lenient v s e =
-    go (ltb strapLimit v) (isReserved true v) (isReserved false v) _ _ _ _ (reserved-less v) e
-  where
-    go : (a b c : Bool) (x z : StrapAnswer) (n p : ℕ) → (b ≡ false → c ≡ false)
-        → if a x (if b (Refused n p) z) ≡ Decoded s → if a x (if c (Refused n p) z) ≡ Decoded s
-    go true b c x z n p l e = e
-    go false true c x z n p l e = cc
-    go false false c x z n p l e = rw (l refl) e

@@ -1,1 +1,2 @@
 pub mod Strap
+pub mod Manners

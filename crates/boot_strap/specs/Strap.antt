@@ -104,9 +104,9 @@ numbersAs manner v =
     (if (isReserved (isStrict manner) v) (STRAP-RESERVED ∷ 0 ∷ [])
     (0 ∷ 0 ∷ rowOf v))
 
--- the entry that names no manner is lenient
+-- the entry that names no manner is strict
 abbrev pub noManner : Manner
-noManner = Lenient
+noManner = Strict
 
 unfoldable pub decodeShort : ℕ → StrapAnswer
 decodeShort v = decodeAs noManner v
@@ -147,7 +147,7 @@ answerNumbers (Decoded s) = 0 ∷ 0 ∷ kindOf s ∷ fieldsOf s
 unfoldable pub nine : List ℕ → List ℕ
 nine numbers = take 9 (numbers ++ replicate 9 0)
 
--- ---- the two callers
+-- ---- the comparison and the board label, in the lenient manner
 
 -- two lists of numbers are the same
 unfoldable pub sameList : List ℕ → List ℕ → Bool
@@ -169,13 +169,15 @@ sameOf (Refused number place) second = sameRefused number place
 sameOf (Decoded s) (Refused number place) = sameRefused number place
 sameOf (Decoded s) (Decoded t) = record { number = 0; place = 0; same = sameStrap s t }
 
+-- the answer for two values, each taken leniently
 unfoldable pub sameAnswer : ℕ → ℕ → SameAnswer
-sameAnswer v w = sameOf (decodeShort v) (decodeShort w)
+sameAnswer v w = sameOf (decodeAs Lenient v) (decodeAs Lenient w)
 
 -- the board label's number: the kind's place in the table of kinds
 unfoldable pub labelOf : StrapAnswer → LabelAnswer
 labelOf (Refused number place) = record { number = number; place = place; label = 0 }
 labelOf (Decoded s) = record { number = 0; place = 0; label = kindOf s }
 
+-- the answer for a value, taken leniently
 unfoldable pub labelAnswer : ℕ → LabelAnswer
-labelAnswer v = labelOf (decodeShort v)
+labelAnswer v = labelOf (decodeAs Lenient v)

@@ -180,12 +180,12 @@ pub fn decode_as(value: u32, manner: Manner) -> StrapAnswer
     StrapAnswer::Decoded(strap_of(value))
 }
 
-// Decodes a strap value where no manner is named: leniently.
+// Decodes a strap value where no manner is named: in the strict one.
 pub fn decode(value: u32) -> StrapAnswer
     ensures { λ r. ⌜ r ≡ decodeShort value ⌝ }
     ensures { λ r. ⌜ answerNumbers r ≡ numbersShort value ⌝ }
 {
-    decode_as(value, Manner::Lenient)
+    decode_as(value, Manner::Strict)
 }
 
 // ---- the answer in numbers
@@ -285,7 +285,7 @@ pub fn numbers(answer: StrapAnswer) -> [u64; 9]
     }
 }
 
-// ---- the two callers
+// ---- the comparison and the board label, in the lenient manner
 
 // Whether two straps have one kind and equal fields.
 fn same_strap(first: Strap, second: Strap) -> bool
@@ -410,13 +410,13 @@ fn same_refused(number: u32, place: usize) -> SameAnswer
     }
 }
 
-// Whether two strap values have one kind and equal fields. The first value's refusal comes before the second's.
+// Whether two strap values, decoded in the lenient manner, have one kind and equal fields. The first value's refusal comes before the second's.
 pub fn same(first: u32, second: u32) -> SameAnswer
     ensures { λ r. ⌜ r ≡ sameAnswer first second ⌝ }
 {
-    match decode(first) {
+    match decode_as(first, Manner::Lenient) {
         StrapAnswer::Refused { number, place } => same_refused(number, place),
-        StrapAnswer::Decoded(s) => match decode(second) {
+        StrapAnswer::Decoded(s) => match decode_as(second, Manner::Lenient) {
             StrapAnswer::Refused { number, place } => same_refused(number, place),
             StrapAnswer::Decoded(t) => SameAnswer {
                 number: 0,
@@ -427,11 +427,11 @@ pub fn same(first: u32, second: u32) -> SameAnswer
     }
 }
 
-// The board label's number: the kind's place in the table of kinds.
+// The board label's number of a value, decoded in the lenient manner: the kind's place in the table of kinds.
 pub fn label(value: u32) -> LabelAnswer
     ensures { λ r. ⌜ r ≡ labelAnswer value ⌝ }
 {
-    match decode(value) {
+    match decode_as(value, Manner::Lenient) {
         StrapAnswer::Refused { number, place } => LabelAnswer {
             number: number,
             place: place,

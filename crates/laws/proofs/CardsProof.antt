@@ -19,8 +19,10 @@ use Rattle.boot_config.specs.declared.Configured.{Configured}
 use Rattle.boot_config.specs.Registers.{rising, fit, indexOf, masked, changedBits}
 use Rattle.boot_config.specs.Config.{unmaskedAt, entryAt, onEntry, appliedFrom, applied, configAnswer, configValues}
 use Rattle.boot_strap.specs.declared.StrapAnswer.{StrapAnswer}
-use Rattle.boot_strap.specs.Strap.{strapOf, isReserved, decodeAs, decodeShort}
-use Rattle.laws.specs.Cards.{Card, Load, Join, Configure, Decode, DecodeShort, Holds, AllHold, cards}
+use Rattle.boot_strap.specs.declared.SameAnswer.{SameAnswer}
+use Rattle.boot_strap.specs.declared.LabelAnswer.{LabelAnswer}
+use Rattle.boot_strap.specs.Strap.{strapOf, isReserved, decodeAs, decodeShort, kindOf, fieldsOf, sameList, sameStrap, sameOf, sameAnswer, labelOf, labelAnswer}
+use Rattle.laws.specs.Cards.{Card, Load, Join, Configure, Decode, DecodeShort, Same, Label, Holds, AllHold, cards}
 
 -- ---- every card holds where the outcomes of the calls are those of the cards
 
@@ -30,6 +32,8 @@ data Outcome : Type 0 where
   Joins : Joined → List ℕ → Outcome
   Configures : Configured → List ℕ → Outcome
   Decodes : StrapAnswer → Outcome
+  Compares : SameAnswer → Outcome
+  Labels : LabelAnswer → Outcome
 
 -- what the definitions give for a card's call
 unfoldable given : Card → Outcome
@@ -38,6 +42,8 @@ given (Join first second output answer after) = Joins (joinAnswer first second (
 given (Configure t addresses values answer after) = Configures (configAnswer t addresses values) (configValues t addresses values)
 given (Decode manner value answer) = Decodes (decodeAs manner value)
 given (DecodeShort value answer) = Decodes (decodeShort value)
+given (Same first second answer) = Compares (sameAnswer first second)
+given (Label value answer) = Labels (labelAnswer value)
 
 -- what the card says
 unfoldable named : Card → Outcome
@@ -46,6 +52,8 @@ named (Join first second output answer after) = Joins answer after
 named (Configure t addresses values answer after) = Configures answer after
 named (Decode manner value answer) = Decodes answer
 named (DecodeShort value answer) = Decodes answer
+named (Same first second answer) = Compares answer
+named (Label value answer) = Labels answer
 
 card-holds : (c : Card) → given c ≡ named c → Holds c
 unfolding given named
@@ -54,6 +62,8 @@ card-holds (Join first second output answer after) e = (cc, cc)
 card-holds (Configure t addresses values answer after) e = (cc, cc)
 card-holds (Decode manner value answer) e = cc
 card-holds (DecodeShort value answer) e = cc
+card-holds (Same first second answer) e = cc
+card-holds (Label value answer) e = cc
 
 all-hold : (cs : List Card) → map given cs ≡ map named cs → AllHold cs
 all-hold [] e = tt
@@ -70,7 +80,7 @@ unfolding given named wordAt wordBytes padCount headerAt headerBytes
     total readForm formOf storeBytes storeAll accepted mapRule formFirst tableAnswer loadAnswer loadMemory
     joined joinedLength joinAnswer joinOutput
     ones rising fit indexOf masked changedBits unmaskedAt entryAt onEntry appliedFrom applied configAnswer configValues
-    strapOf isReserved decodeAs decodeShort
+    strapOf isReserved decodeAs decodeShort kindOf fieldsOf sameList sameStrap sameOf sameAnswer labelOf labelAnswer
 everything = tt
 
 pub cards-hold : AllHold cards

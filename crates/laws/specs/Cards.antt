@@ -15,7 +15,9 @@ use Rattle.boot_strap.specs.declared.Manner.the-variants.{Strict, Lenient}
 use Rattle.boot_strap.specs.declared.Strap.the-variants.{Emif16, Spi}
 use Rattle.boot_strap.specs.declared.StrapAnswer.{StrapAnswer}
 use Rattle.boot_strap.specs.declared.StrapAnswer.the-variants.{Decoded, Refused}
-use Rattle.boot_strap.specs.Strap.{decodeAs, decodeShort}
+use Rattle.boot_strap.specs.declared.SameAnswer.{SameAnswer}
+use Rattle.boot_strap.specs.declared.LabelAnswer.{LabelAnswer}
+use Rattle.boot_strap.specs.Strap.{decodeAs, decodeShort, sameAnswer, labelAnswer}
 
 -- a card is a call, with the whole answer and all that the lent buffer holds afterwards
 pub data Card : Type 0 where
@@ -24,6 +26,8 @@ pub data Card : Type 0 where
   Configure : (table addresses values : List ℕ) → Configured → List ℕ → Card
   Decode : Manner → ℕ → StrapAnswer → Card
   DecodeShort : ℕ → StrapAnswer → Card
+  Same : (first second : ℕ) → SameAnswer → Card
+  Label : ℕ → LabelAnswer → Card
 
 -- what a card claims
 abbrev pub Holds : Card → Type 0
@@ -32,6 +36,8 @@ Holds (Join first second output answer after) = (joinAnswer first second (length
 Holds (Configure table addresses values answer after) = (configAnswer table addresses values ≡ answer) × (configValues table addresses values ≡ after)
 Holds (Decode manner value answer) = decodeAs manner value ≡ answer
 Holds (DecodeShort value answer) = decodeShort value ≡ answer
+Holds (Same first second answer) = sameAnswer first second ≡ answer
+Holds (Label value answer) = labelAnswer value ≡ answer
 
 -- every card of a list holds
 abbrev pub AllHold : List Card → Type 0
@@ -52,6 +58,12 @@ success n sections = record { number = 0; place = 0; which = 0; length = n; sect
 
 abbrev pub configured : ℕ → ℕ → Configured
 configured entries bits = record { number = 0; place = 0; entries = entries; bits = bits }
+
+abbrev pub compared : ℕ → Bool → SameAnswer
+compared number same = record { number = number; place = 0; same = same }
+
+abbrev pub labelled : ℕ → ℕ → LabelAnswer
+labelled number label = record { number = number; place = 0; label = label }
 
 -- ---- the map, the tables and the memory of the cards
 
@@ -146,7 +158,7 @@ bothMasks =
 
 -- ---- the cards
 
--- the twelve cards of document 01, card 6 as request 2 of document 02 has it
+-- the twelve cards of document 01, card 6 as request 2 and card 12 as request 7 of document 02 have them
 abbrev pub cards : List Card
 cards =
     -- 1: P under M
@@ -179,21 +191,39 @@ cards =
     Configure setAndClear (0x02620000 ∷ []) (0x0000000F ∷ []) (configured 1 4) (0x0000003C ∷ []) ∷
     -- 10: the same register, set 1, clear 1
     Configure bothMasks (0x02620000 ∷ []) (0x0000000F ∷ []) (configured 1 0) (0x0000000F ∷ []) ∷
-    -- 11: strap 7878, in each manner and where none is named
+    -- 11: strap 7878, through each strap call
     Decode Strict 7878 (Decoded (Spi 3 true true 1 2 0)) ∷
     Decode Lenient 7878 (Decoded (Spi 3 true true 1 2 0)) ∷
     DecodeShort 7878 (Decoded (Spi 3 true true 1 2 0)) ∷
-    -- 12: straps 160, 416, 64 and 8192
+    Same 7878 7878 (compared 0 true) ∷
+    Label 7878 (labelled 0 7) ∷
+    -- 12: strap 160
     Decode Strict 160 (Decoded (Emif16 0 true 0)) ∷
     Decode Lenient 160 (Decoded (Emif16 0 true 0)) ∷
     DecodeShort 160 (Decoded (Emif16 0 true 0)) ∷
+    Same 160 160 (compared 0 true) ∷
+    Label 160 (labelled 0 1) ∷
+    -- 12: 416, refused unless lenient is named; the comparison and the label name it
     Decode Strict 416 (Refused 19 0) ∷
     Decode Lenient 416 (Decoded (Emif16 0 true 0)) ∷
-    DecodeShort 416 (Decoded (Emif16 0 true 0)) ∷
+    DecodeShort 416 (Refused 19 0) ∷
+    Same 416 160 (compared 0 true) ∷
+    Same 160 416 (compared 0 true) ∷
+    Label 416 (labelled 0 1) ∷
+    -- 12: 64
     Decode Strict 64 (Refused 19 0) ∷
     Decode Lenient 64 (Refused 19 0) ∷
     DecodeShort 64 (Refused 19 0) ∷
+    Same 64 160 (compared 19 false) ∷
+    Same 160 64 (compared 19 false) ∷
+    Label 64 (labelled 19 0) ∷
+    -- 12: 8192
     Decode Strict 8192 (Refused 18 0) ∷
     Decode Lenient 8192 (Refused 18 0) ∷
     DecodeShort 8192 (Refused 18 0) ∷
+    Same 8192 160 (compared 18 false) ∷
+    Same 160 8192 (compared 18 false) ∷
+    Same 8192 64 (compared 18 false) ∷
+    Same 64 8192 (compared 19 false) ∷
+    Label 8192 (labelled 18 0) ∷
     []

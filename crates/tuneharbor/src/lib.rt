@@ -121,7 +121,7 @@ pub extern "C" fn tuneharbor_strap(value: u32, strict: bool, answer: &mut [u64; 
     *answer = boot_strap::numbers(boot_strap::decode_as(value, manner_of(strict)));
 }
 
-// Decodes a strap value where no manner is named.
+// Decodes a strap value where no manner is named: in the strict one.
 #[no_mangle]
 pub extern "C" fn tuneharbor_strap_short(value: u32, answer: &mut [u64; 9])
     ensures { λ _. ⌜ now (answer .exit) ≡ nine (numbersShort value) ⌝ }
@@ -129,7 +129,7 @@ pub extern "C" fn tuneharbor_strap_short(value: u32, answer: &mut [u64; 9])
     *answer = boot_strap::numbers(boot_strap::decode(value));
 }
 
-// Whether two strap values have one kind and equal fields.
+// Whether two strap values, decoded in the lenient manner, have one kind and equal fields.
 #[no_mangle]
 pub extern "C" fn tuneharbor_strap_same(first: u32, second: u32, answer: &mut [u64; 3])
     ensures { λ _. ⌜ now (answer .exit) ≡ sameNumbers (sameAnswer first second) ⌝ }
@@ -138,7 +138,7 @@ pub extern "C" fn tuneharbor_strap_same(first: u32, second: u32, answer: &mut [u
     *answer = [r.number as u64, r.place as u64, r.same as u64];
 }
 
-// The board label's number of a strap value.
+// The board label's number of a strap value, decoded in the lenient manner.
 #[no_mangle]
 pub extern "C" fn tuneharbor_strap_label(value: u32, answer: &mut [u64; 3])
     ensures { λ _. ⌜ now (answer .exit) ≡ labelNumbers (labelAnswer value) ⌝ }

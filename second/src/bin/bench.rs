@@ -509,8 +509,15 @@ fn straps(numbers: &mut Numbers) {
         |value| fast::strap(value, true),
     );
     strap(
-        "strap_short",
+        "strap",
         "lenient",
+        &values,
+        |value| calls::strap(value, false),
+        |value| fast::strap(value, false),
+    );
+    strap(
+        "strap_short",
+        "strict",
         &values,
         calls::strap_short,
         fast::strap_short,
