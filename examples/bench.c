@@ -94,7 +94,7 @@ static void print_strap(const char *what, uint32_t value, const uint64_t answer[
     printf("\n");
 }
 
-/* A strap value through each entry; it is compared with 160. */
+/* A strap value through each strap call; it is compared with 160. */
 static void strap(uint32_t value)
 {
     uint64_t decoded[9];
