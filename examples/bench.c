@@ -1,5 +1,5 @@
-/* Judges, joins and loads two small tables, decodes two strap values, and prints
- * what each call answers.
+/* Judges, joins and loads two small tables in both byte orders, decodes two strap
+ * values, and prints what each call answers.
  *
  *   rt staticlib tuneharbor
  *   cc -std=c99 -Wall -Wextra -Werror -Iinclude examples/bench.c target/staticlib/libtuneharbor.a -o target/bench
@@ -28,6 +28,17 @@ static const uint8_t table_q[20] = {
     0x00, 0x04, 0xB7, 0x00, 0x00, 0x00, 0x00, 0x00, 0x00, 0x00,
 };
 
+/* The same two with the low byte of their header words first. */
+static const uint8_t low_p[20] = {
+    0x00, 0x00, 0x80, 0x00, 0x03, 0x00, 0x00, 0x00, 0x02, 0x00,
+    0x80, 0x00, 0xA1, 0xA2, 0xA3, 0x00, 0x00, 0x00, 0x00, 0x00,
+};
+
+static const uint8_t low_q[20] = {
+    0x04, 0x00, 0x80, 0x00, 0x01, 0x00, 0x00, 0x00, 0x04, 0x00,
+    0x80, 0x00, 0xB7, 0x00, 0x00, 0x00, 0x00, 0x00, 0x00, 0x00,
+};
+
 static void print_table_answer(const char *what, const uint64_t answer[7])
 {
     printf("%s: number %" PRIu64 ", place %" PRIu64 ", address %08" PRIX64
@@ -47,22 +58,25 @@ static void print_bytes(const char *what, const uint8_t *bytes, size_t len)
     printf("\n");
 }
 
-static void judge(const char *what, const uint8_t *table, size_t table_len)
+static void judge(const char *what, const uint8_t *table, size_t table_len,
+                  bool low_first)
 {
     uint64_t answer[7];
 
-    tuneharbor_judge(map, sizeof map, table, table_len, answer);
+    tuneharbor_judge(map, sizeof map, table, table_len, low_first, answer);
     print_table_answer(what, answer);
 }
 
 /* Loads into zeroed memory. */
-static void load(const char *what, const uint8_t *table, size_t table_len)
+static void load(const char *what, const uint8_t *table, size_t table_len,
+                 bool low_first)
 {
     uint64_t answer[7];
     uint8_t memory[16];
 
     memset(memory, 0, sizeof memory);
-    tuneharbor_load(map, sizeof map, table, table_len, memory, sizeof memory, answer);
+    tuneharbor_load(map, sizeof map, table, table_len, low_first, memory,
+                    sizeof memory, answer);
     print_table_answer(what, answer);
     print_bytes("memory", memory, sizeof memory);
 }
@@ -70,11 +84,13 @@ static void load(const char *what, const uint8_t *table, size_t table_len)
 /* Joins two tables into 32 bytes, prints as many as the join has, and answers
  * how many these are. */
 static size_t join(const char *what, const uint8_t *first, size_t first_len,
-                   const uint8_t *second, size_t second_len, uint8_t output[32])
+                   const uint8_t *second, size_t second_len, bool low_first,
+                   uint8_t output[32])
 {
     uint64_t answer[5];
 
-    tuneharbor_join(first, first_len, second, second_len, output, 32, answer);
+    tuneharbor_join(first, first_len, second, second_len, low_first, output, 32,
+                    answer);
     printf("%s: number %" PRIu64 ", place %" PRIu64 ", table %" PRIu64
            ", length %" PRIu64 ", sections %" PRIu64 "\n",
            what, answer[0], answer[1], answer[2], answer[3], answer[4]);
@@ -127,32 +143,44 @@ int main(void)
     printf("map: number %" PRIu64 ", place %" PRIu64 ", sum %" PRIu64 "\n",
            answer[0], answer[1], answer[2]);
 
-    judge("judge P", table_p, sizeof table_p);
-    judge("judge Q", table_q, sizeof table_q);
-    load("load P", table_p, sizeof table_p);
+    judge("judge P", table_p, sizeof table_p, false);
+    judge("judge Q", table_q, sizeof table_q, false);
+    load("load P", table_p, sizeof table_p, false);
 
     length = join("join P and Q", table_p, sizeof table_p, table_q,
-                  sizeof table_q, output);
-    load("load P and Q", output, length);
+                  sizeof table_q, false, output);
+    load("load P and Q", output, length, false);
 
     length = join("join Q and P", table_q, sizeof table_q, table_p,
-                  sizeof table_p, output);
-    load("load Q and P", output, length);
+                  sizeof table_p, false, output);
+    load("load Q and P", output, length, false);
 
     /* A pad may hold anything: the answers are P's, and the join keeps the pad. */
     memcpy(padded, table_p, sizeof padded);
     padded[15] = 0x01;
-    judge("judge P with pad byte 01", padded, sizeof padded);
+    judge("judge P with pad byte 01", padded, sizeof padded, false);
     join("join Q and P with pad byte 01", table_q, sizeof table_q, padded,
-         sizeof padded, output);
-    load("load P with pad byte 01", padded, sizeof padded);
+         sizeof padded, false, output);
+    load("load P with pad byte 01", padded, sizeof padded, false);
 
     /* But it has to be there: without it and the zero word P is cut short. */
-    judge("judge P cut before its pad", table_p, 15);
+    judge("judge P cut before its pad", table_p, 15, false);
     join("join Q and P cut before its pad", table_q, sizeof table_q, table_p,
-         15, output);
+         15, false, output);
     print_bytes("output as it was", output, sizeof output);
-    load("load P cut before its pad", table_p, 15);
+    load("load P cut before its pad", table_p, 15, false);
+
+    /* The low byte first: the same answers and memory, and the join in that
+     * order too. In the other order a size word counts more bytes than follow. */
+    judge("judge P low first", low_p, sizeof low_p, true);
+    load("load P low first", low_p, sizeof low_p, true);
+    length = join("join P and Q low first", low_p, sizeof low_p, low_q,
+                  sizeof low_q, true, output);
+    load("load P and Q low first", output, length, true);
+    judge("judge P low first as high first", low_p, sizeof low_p, false);
+    judge("judge P as low first", table_p, sizeof table_p, true);
+    join("join P with Q low first, as high first", table_p, sizeof table_p, low_q,
+         sizeof low_q, false, output);
 
     /* EMIF16 with wait; and the same with reserved bit 8 one, which is refused
      * unless lenient is named. The comparison and the label name it. */

@@ -17,13 +17,14 @@
 
 #include "tuneharbor.h"
 
-typedef void judge_call(const uint8_t *, size_t, const uint8_t *, size_t, uint64_t *);
-typedef void load_call(const uint8_t *, size_t, const uint8_t *, size_t, uint8_t *, size_t, uint64_t *);
+typedef void judge_call(const uint8_t *, size_t, const uint8_t *, size_t, bool, uint64_t *);
+typedef void load_call(const uint8_t *, size_t, const uint8_t *, size_t, bool, uint8_t *, size_t, uint64_t *);
 
 /* What is passed. */
 static uint8_t map[768];
 static uint8_t table[1024];
 static size_t table_len;
+static bool low_first;
 static uint8_t memory[63 * 16];
 static uint64_t answer[7];
 
@@ -39,12 +40,12 @@ static ucontext_t here, there;
 
 static void call_judge(void)
 {
-    judge(map, sizeof map, table, table_len, answer);
+    judge(map, sizeof map, table, table_len, low_first, answer);
 }
 
 static void call_load(void)
 {
-    load(map, sizeof map, table, table_len, memory, sizeof memory, answer);
+    load(map, sizeof map, table, table_len, low_first, memory, sizeof memory, answer);
 }
 
 /* Makes a call on the stack in one paint, and answers the lowest byte that the
@@ -81,16 +82,16 @@ static const unsigned char *lowest(void (*call)(void))
  * and above them is where it stood. */
 static const unsigned char *top;
 
-static void judge_top(const uint8_t *m, size_t m_len, const uint8_t *t, size_t t_len, uint64_t *a)
+static void judge_top(const uint8_t *m, size_t m_len, const uint8_t *t, size_t t_len, bool l, uint64_t *a)
 {
-    (void)m, (void)m_len, (void)t, (void)t_len, (void)a;
+    (void)m, (void)m_len, (void)t, (void)t_len, (void)l, (void)a;
     top = (const unsigned char *)__builtin_frame_address(0) + 2 * sizeof(void *);
 }
 
-static void load_top(const uint8_t *m, size_t m_len, const uint8_t *t, size_t t_len, uint8_t *b, size_t b_len,
-                     uint64_t *a)
+static void load_top(const uint8_t *m, size_t m_len, const uint8_t *t, size_t t_len, bool l, uint8_t *b,
+                     size_t b_len, uint64_t *a)
 {
-    (void)m, (void)m_len, (void)t, (void)t_len, (void)b, (void)b_len, (void)a;
+    (void)m, (void)m_len, (void)t, (void)t_len, (void)l, (void)b, (void)b_len, (void)a;
     top = (const unsigned char *)__builtin_frame_address(0) + 2 * sizeof(void *);
 }
 
@@ -128,12 +129,24 @@ static const struct {
     {7, 0x00900000, 1016, TUNEHARBOR_MAP_RECORD},
 };
 
+/* The four bytes of a word, the high one first. */
 static void put_word(uint8_t *at, uint32_t word)
 {
     at[0] = (uint8_t)(word >> 24);
     at[1] = (uint8_t)(word >> 16);
     at[2] = (uint8_t)(word >> 8);
     at[3] = (uint8_t)word;
+}
+
+/* The four bytes of a header word, in the table's byte order. */
+static void put_header(uint8_t *at, uint32_t word)
+{
+    uint8_t high[4];
+    size_t i;
+
+    put_word(high, word);
+    for (i = 0; i < 4; i++)
+        at[i] = high[low_first ? 3 - i : i];
 }
 
 static void put_record(size_t index, uint8_t kind, uint32_t first)
@@ -148,21 +161,27 @@ static void put_record(size_t index, uint8_t kind, uint32_t first)
     put_word(at + 8, 16);
 }
 
-/* The most that a call takes in any of the cases, or 0 where one is not answered
- * as it should be. */
+/* The most that a call takes in any of the cases and in either byte order, or 0
+ * where one is not answered as it should be. */
 static size_t most(size_t (*stack_of)(void))
 {
-    size_t i, used, highest = 0;
+    const size_t count = sizeof cases / sizeof cases[0];
+    size_t i, n, used, highest = 0;
 
-    for (i = 0; i < sizeof cases / sizeof cases[0]; i++) {
+    for (n = 0; n < 2 * count; n++) {
+        i = n % count;
+        low_first = n >= count;
+        put_header(table, 0x00800000);
+        put_header(table + 4, 1000);
+        put_header(table + 8, 0x00800000);
         put_record(63, cases[i].kind, cases[i].first);
         table_len = cases[i].table_len;
         answer[0] = UINT64_MAX;
         used = stack_of();
         highest = used > highest ? used : highest;
         if (answer[0] != cases[i].number) {
-            fprintf(stderr, "case %zu is answered with %" PRIu64 ", not %" PRIu64 "\n", i, answer[0],
-                    cases[i].number);
+            fprintf(stderr, "case %zu, %s first, is answered with %" PRIu64 ", not %" PRIu64 "\n", i,
+                    low_first ? "low" : "high", answer[0], cases[i].number);
             return 0;
         }
     }
@@ -175,9 +194,6 @@ int main(void)
 
     for (i = 0; i < 63; i++)
         put_record(i, 1, 0x00800000 + 16 * (uint32_t)(i * 2 % 63));
-    put_word(table, 0x00800000);
-    put_word(table + 4, 1000);
-    put_word(table + 8, 0x00800000);
     judge_stack = most(stack_of_judge);
     load_stack = most(stack_of_load);
     if (judge_stack == 0 || load_stack == 0)

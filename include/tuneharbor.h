@@ -11,7 +11,15 @@
  * where a refusal arose: a byte offset into the table, or the index of a map
  * record; 0 where there is no such place. After a refusal memory, output and
  * values are unchanged, and all answers from answer[2] on are 0 but those
- * that are said to speak of a refusal. */
+ * that are said to speak of a refusal.
+ *
+ * low_first names the byte order of the header words of a boot table, which
+ * are its entry and each section's size and address: true for the low byte
+ * first, false for the high byte first. A call has one order for all its boot
+ * tables. No call finds out the order: a table in the other order is read as
+ * it then stands, and is mostly refused, but can be accepted with another
+ * meaning. Data bytes and pads are never reordered. The words of maps and of
+ * configuration tables have the high byte first. */
 #ifndef TUNEHARBOR_H
 #define TUNEHARBOR_H
 
@@ -71,7 +79,7 @@ void tuneharbor_map(const uint8_t *map, size_t map_len, uint64_t answer[3]);
  * answer[5] how many sections the table has
  * answer[6] how many data bytes the sections have together */
 void tuneharbor_judge(const uint8_t *map, size_t map_len,
-                      const uint8_t *table, size_t table_len,
+                      const uint8_t *table, size_t table_len, bool low_first,
                       uint64_t answer[7]);
 
 /* Loads a boot table into memory under a map. Memory of another length than the
@@ -79,12 +87,13 @@ void tuneharbor_judge(const uint8_t *map, size_t map_len,
  *
  * answer[0] to answer[6] as for tuneharbor_judge */
 void tuneharbor_load(const uint8_t *map, size_t map_len,
-                     const uint8_t *table, size_t table_len,
+                     const uint8_t *table, size_t table_len, bool low_first,
                      uint8_t *memory, size_t memory_len,
                      uint64_t answer[7]);
 
 /* Joins two boot tables: the second's entry address, the first's sections,
- * and then the second's. The output past the join is unchanged.
+ * and then the second's. Both tables and the join are in one byte order. The
+ * output past the join is unchanged.
  *
  * answer[0] number
  * answer[1] place
@@ -93,7 +102,7 @@ void tuneharbor_load(const uint8_t *map, size_t map_len,
  * answer[3] the join's length in bytes
  * answer[4] how many sections the join has */
 void tuneharbor_join(const uint8_t *first, size_t first_len,
-                     const uint8_t *second, size_t second_len,
+                     const uint8_t *second, size_t second_len, bool low_first,
                      uint8_t *output, size_t output_len,
                      uint64_t answer[5]);
 

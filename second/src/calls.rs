@@ -4,7 +4,8 @@
 //! written shows, and has two more elements that must stay as they were.
 
 use crate::reference::{
-    ConfigAnswer, JoinAnswer, LabelAnswer, LoadAnswer, MapAnswer, SameAnswer, StrapAnswer,
+    ByteOrder, ConfigAnswer, JoinAnswer, LabelAnswer, LoadAnswer, MapAnswer, SameAnswer,
+    StrapAnswer,
 };
 
 extern "C" {
@@ -14,6 +15,7 @@ extern "C" {
         map_len: usize,
         table: *const u8,
         table_len: usize,
+        low_first: bool,
         answer: *mut u64,
     );
     fn tuneharbor_load(
@@ -21,6 +23,7 @@ extern "C" {
         map_len: usize,
         table: *const u8,
         table_len: usize,
+        low_first: bool,
         memory: *mut u8,
         memory_len: usize,
         answer: *mut u64,
@@ -30,6 +33,7 @@ extern "C" {
         first_len: usize,
         second: *const u8,
         second_len: usize,
+        low_first: bool,
         output: *mut u8,
         output_len: usize,
         answer: *mut u64,
@@ -97,14 +101,26 @@ fn load_answer(array: [u64; 7]) -> LoadAnswer {
     }
 }
 
-pub fn judge(map: &[u8], table: &[u8]) -> LoadAnswer {
+/// What a call over tables takes for an order.
+fn low_first(order: ByteOrder) -> bool {
+    order == ByteOrder::LowFirst
+}
+
+pub fn judge(map: &[u8], table: &[u8], order: ByteOrder) -> LoadAnswer {
     // Safety: the slices live through the call; the answer has 7 elements.
     load_answer(answered(|answer| unsafe {
-        tuneharbor_judge(map.as_ptr(), map.len(), table.as_ptr(), table.len(), answer)
+        tuneharbor_judge(
+            map.as_ptr(),
+            map.len(),
+            table.as_ptr(),
+            table.len(),
+            low_first(order),
+            answer,
+        )
     }))
 }
 
-pub fn load(map: &[u8], table: &[u8], memory: &mut [u8]) -> LoadAnswer {
+pub fn load(map: &[u8], table: &[u8], order: ByteOrder, memory: &mut [u8]) -> LoadAnswer {
     // Safety: the slices live through the call, memory is lent to it alone;
     // the answer has 7 elements.
     load_answer(answered(|answer| unsafe {
@@ -113,6 +129,7 @@ pub fn load(map: &[u8], table: &[u8], memory: &mut [u8]) -> LoadAnswer {
             map.len(),
             table.as_ptr(),
             table.len(),
+            low_first(order),
             memory.as_mut_ptr(),
             memory.len(),
             answer,
@@ -120,7 +137,7 @@ pub fn load(map: &[u8], table: &[u8], memory: &mut [u8]) -> LoadAnswer {
     }))
 }
 
-pub fn join(first: &[u8], second: &[u8], output: &mut [u8]) -> JoinAnswer {
+pub fn join(first: &[u8], second: &[u8], order: ByteOrder, output: &mut [u8]) -> JoinAnswer {
     // Safety: the slices live through the call, output is lent to it alone;
     // the answer has 5 elements.
     let [number, place, table, length, sections] = answered(|answer| unsafe {
@@ -129,6 +146,7 @@ pub fn join(first: &[u8], second: &[u8], output: &mut [u8]) -> JoinAnswer {
             first.len(),
             second.as_ptr(),
             second.len(),
+            low_first(order),
             output.as_mut_ptr(),
             output.len(),
             answer,

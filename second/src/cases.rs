@@ -2,7 +2,7 @@
 //! from one seed. The variable TUNEHARBOR_SEED changes the seed and
 //! TUNEHARBOR_CASES the count of generated cases.
 
-use crate::reference::{self, CONFIG_LIMIT, TOP};
+use crate::reference::{self, ByteOrder, CONFIG_LIMIT, TOP};
 
 /// The seed where TUNEHARBOR_SEED names no other.
 pub const SEED: u64 = 20_261_115;
@@ -29,6 +29,7 @@ pub fn count() -> u64 {
 }
 
 /// A splitmix generator of 64-bit numbers.
+#[derive(Clone)]
 pub struct Numbers(u64);
 
 impl Numbers {
@@ -83,12 +84,31 @@ impl Numbers {
         (0..length).map(|_| self.byte()).collect()
     }
 
+    /// Either byte order.
+    pub fn order(&mut self) -> ByteOrder {
+        self.pick(&ByteOrder::BOTH)
+    }
+
     /// Puts a list in no order.
     pub fn shuffle<T>(&mut self, list: &mut [T]) {
         for i in (1..list.len()).rev() {
             list.swap(i, self.index(i + 1));
         }
     }
+}
+
+/// Table P of document 01.
+pub const P: [u8; 20] = [
+    0, 0x80, 0, 0, 0, 0, 0, 3, 0, 0x80, 0, 2, 0xA1, 0xA2, 0xA3, 0, 0, 0, 0, 0,
+];
+/// P low first.
+pub const P_LOW: [u8; 20] = [
+    0, 0, 0x80, 0, 3, 0, 0, 0, 2, 0, 0x80, 0, 0xA1, 0xA2, 0xA3, 0, 0, 0, 0, 0,
+];
+
+/// P in an order.
+pub fn p(order: ByteOrder) -> &'static [u8; 20] {
+    [&P, &P_LOW][order as usize]
 }
 
 // Builders.
@@ -110,6 +130,19 @@ pub fn map(records: &[(u8, u32, u32)]) -> Vec<u8> {
     bytes
 }
 
+/// The bytes of a header word.
+pub fn header_word(value: u32, order: ByteOrder) -> [u8; 4] {
+    match order {
+        ByteOrder::HighFirst => value.to_be_bytes(),
+        ByteOrder::LowFirst => value.to_le_bytes(),
+    }
+}
+
+/// Writes a header word in the other order.
+pub fn turn_word(bytes: &mut [u8], at: usize) {
+    bytes[at..at + 4].reverse();
+}
+
 /// How many pads stand after data of a size.
 fn pads_after(size: usize) -> usize {
     size.next_multiple_of(4) - size
@@ -121,16 +154,16 @@ fn zero_pads(size: usize) -> &'static [u8] {
 }
 
 /// A section: size word, address word, data, zero pads.
-pub fn section(address: u32, data: &[u8]) -> Vec<u8> {
-    padded_section(address, data, zero_pads(data.len()))
+pub fn section(address: u32, data: &[u8], order: ByteOrder) -> Vec<u8> {
+    padded_section(address, data, zero_pads(data.len()), order)
 }
 
 /// A section: size word, address word, data, and pads of any contents.
-pub fn padded_section(address: u32, data: &[u8], pads: &[u8]) -> Vec<u8> {
+pub fn padded_section(address: u32, data: &[u8], pads: &[u8], order: ByteOrder) -> Vec<u8> {
     assert_eq!(pads.len(), pads_after(data.len()), "the count of pads");
     let mut bytes = Vec::with_capacity(8 + data.len() + pads.len());
-    bytes.extend((data.len() as u32).to_be_bytes());
-    bytes.extend(address.to_be_bytes());
+    bytes.extend(header_word(data.len() as u32, order));
+    bytes.extend(header_word(address, order));
     bytes.extend(data);
     bytes.extend(pads);
     bytes
@@ -138,19 +171,19 @@ pub fn padded_section(address: u32, data: &[u8], pads: &[u8]) -> Vec<u8> {
 
 /// A boot table from its entry and the address and data of each section, with
 /// zero pads.
-pub fn table(entry: u32, sections: &[(u32, &[u8])]) -> Vec<u8> {
+pub fn table(entry: u32, sections: &[(u32, &[u8])], order: ByteOrder) -> Vec<u8> {
     let list: Vec<(u32, &[u8], &[u8])> = sections
         .iter()
         .map(|(address, data)| (*address, *data, zero_pads(data.len())))
         .collect();
-    padded_table(entry, &list)
+    padded_table(entry, &list, order)
 }
 
 /// A boot table from its entry and the address, data and pads of each section.
-pub fn padded_table(entry: u32, sections: &[(u32, &[u8], &[u8])]) -> Vec<u8> {
-    let mut bytes = entry.to_be_bytes().to_vec();
+pub fn padded_table(entry: u32, sections: &[(u32, &[u8], &[u8])], order: ByteOrder) -> Vec<u8> {
+    let mut bytes = header_word(entry, order).to_vec();
     for (address, data, pads) in sections {
-        bytes.extend(padded_section(*address, data, pads));
+        bytes.extend(padded_section(*address, data, pads, order));
     }
     bytes.extend([0; 4]);
     bytes
@@ -175,8 +208,13 @@ pub fn config(list: &[(u32, u32, u32)]) -> Vec<u8> {
     bytes
 }
 
+fn set_header_word(bytes: &mut [u8], at: usize, value: u32, order: ByteOrder) {
+    bytes[at..at + 4].copy_from_slice(&header_word(value, order));
+}
+
+/// Sets a word of a map or a configuration table.
 fn set_word(bytes: &mut [u8], at: usize, value: u32) {
-    bytes[at..at + 4].copy_from_slice(&value.to_be_bytes());
+    set_header_word(bytes, at, value, ByteOrder::HighFirst);
 }
 
 // Maps.
@@ -401,12 +439,12 @@ pub fn pads(numbers: &mut Numbers, count: usize) -> Vec<u8> {
 }
 
 /// The bytes of a table of sections.
-pub fn table_of(entry: u32, sections: &[Section]) -> Vec<u8> {
+pub fn table_of(entry: u32, sections: &[Section], order: ByteOrder) -> Vec<u8> {
     let list: Vec<(u32, &[u8], &[u8])> = sections
         .iter()
         .map(|section| (section.address, &section.data[..], &section.pads[..]))
         .collect();
-    padded_table(entry, &list)
+    padded_table(entry, &list, order)
 }
 
 /// The offset of each size word in a table of sections.
@@ -417,6 +455,14 @@ fn offsets(sections: &[Section]) -> Vec<usize> {
         list.push(at);
         at += 8 + section.data.len() + section.pads.len();
     }
+    list
+}
+
+/// The offset of each header word in a table of sections: the entry, and the
+/// size and the address of each section.
+fn header_offsets(sections: &[Section]) -> Vec<usize> {
+    let mut list = vec![0];
+    list.extend(offsets(sections).into_iter().flat_map(|at| [at, at + 4]));
     list
 }
 
@@ -519,8 +565,56 @@ pub fn entry(numbers: &mut Numbers, regions: &Regions) -> u32 {
     numbers.pick(&[0, 1, 0xFFFF_FFFF, 0x8000_0000, random])
 }
 
+/// What may stand in the place of a table's zero word so that a fault stands
+/// behind the sections: the bytes, the fault's number, and its place behind
+/// the sections.
+pub fn fault(numbers: &mut Numbers, order: ByteOrder) -> (Vec<u8>, u64, u64) {
+    let pads = numbers.bytes(3);
+    match numbers.below(5) {
+        // The zero word is missing or cut.
+        0 => (vec![0; numbers.index(4)], 5, 0),
+        // A section of one byte is cut where its pads should stand.
+        1 => {
+            let section = padded_section(numbers.word(), &[7], &pads, order);
+            (section[..9 + numbers.index(3)].to_vec(), 5, 0)
+        }
+        // All three pads are there, and the zero word behind them is missing.
+        2 => (padded_section(0, &[7], &pads, order), 5, 12),
+        // Bytes after the zero word.
+        3 => (vec![0; 5 + numbers.index(4)], 7, 4),
+        // A section past the top.
+        _ => {
+            let mut bytes = padded_section(0xFFFF_FFFF, &[7, 8], &pads[..2], order);
+            bytes.extend([0; 4]);
+            (bytes, 8, 0)
+        }
+    }
+}
+
+/// Writes header words of a table of sections in the wrong order: all of them,
+/// or the entry, one size or one address alone.
+fn turn_words(numbers: &mut Numbers, bytes: &mut [u8], sections: &[Section]) {
+    let offsets = header_offsets(sections);
+    if numbers.once_in(2) {
+        turn_word(bytes, numbers.pick(&offsets));
+        return;
+    }
+    for at in offsets {
+        turn_word(bytes, at);
+    }
+}
+
 /// One damage to a boot table made of sections.
-fn damage_table(numbers: &mut Numbers, bytes: &mut Vec<u8>, sections: &[Section]) {
+fn damage_table(
+    numbers: &mut Numbers,
+    bytes: &mut Vec<u8>,
+    sections: &[Section],
+    order: ByteOrder,
+) {
+    if numbers.once_in(8) {
+        turn_words(numbers, bytes, sections);
+        return;
+    }
     if !sections.is_empty() && numbers.once_in(2) {
         let index = numbers.index(sections.len());
         let at = offsets(sections)[index];
@@ -541,12 +635,12 @@ fn damage_table(numbers: &mut Numbers, bytes: &mut Vec<u8>, sections: &[Section]
                     0xFFFF_FFFD,
                     0xFFFF_FFFF,
                 ]);
-                set_word(bytes, at, value);
+                set_header_word(bytes, at, value, order);
             }
             1 => {
                 let edge = 0u32.wrapping_sub(size);
                 let value = numbers.pick(&[0, 0xFFFF_FFFF, edge, edge.wrapping_add(1)]);
-                set_word(bytes, at + 4, value);
+                set_header_word(bytes, at + 4, value, order);
             }
             // A pad byte is changed, which alone is no damage; at times the
             // address is the highest as well, so that two or more data bytes
@@ -555,7 +649,7 @@ fn damage_table(numbers: &mut Numbers, bytes: &mut Vec<u8>, sections: &[Section]
                 let spot = data_end + numbers.index(end - data_end);
                 bytes[spot] = numbers.pick(&[0, 1, 2, 128, 255]);
                 if numbers.once_in(2) {
-                    set_word(bytes, at + 4, 0xFFFF_FFFF);
+                    set_header_word(bytes, at + 4, 0xFFFF_FFFF, order);
                 }
             }
             // The data is whole, and the table is cut where pads should stand.
@@ -599,18 +693,23 @@ fn damage_table(numbers: &mut Numbers, bytes: &mut Vec<u8>, sections: &[Section]
         _ => {
             let at = numbers.index(bytes.len() / 4) * 4;
             let value = numbers.pick(&[0, 1, 3, 0x8000_0000, 0xFFFF_FFFF]);
-            set_word(bytes, at, value);
+            set_header_word(bytes, at, value, order);
         }
     }
 }
 
-/// A boot table, damaged once in so many times.
-pub fn boot_table(numbers: &mut Numbers, regions: &Regions, times: u64) -> Vec<u8> {
+/// A boot table to be read in an order, damaged once in so many times.
+pub fn boot_table(
+    numbers: &mut Numbers,
+    regions: &Regions,
+    times: u64,
+    order: ByteOrder,
+) -> Vec<u8> {
     let list = sections(numbers, regions);
     let first_word = entry(numbers, regions);
-    let mut bytes = table_of(first_word, &list);
+    let mut bytes = table_of(first_word, &list, order);
     if numbers.once_in(times) {
-        damage_table(numbers, &mut bytes, &list);
+        damage_table(numbers, &mut bytes, &list, order);
     }
     bytes
 }
@@ -620,12 +719,14 @@ pub fn boot_table(numbers: &mut Numbers, regions: &Regions, times: u64) -> Vec<u
 pub struct LoadCase {
     pub map: Vec<u8>,
     pub table: Vec<u8>,
+    pub order: ByteOrder,
     pub memory: Vec<u8>,
 }
 
 pub fn load_case(numbers: &mut Numbers) -> LoadCase {
     let mut regions = sound_map(numbers);
-    let table = boot_table(numbers, &regions, 3);
+    let order = numbers.order();
+    let table = boot_table(numbers, &regions, 3, order);
     if numbers.once_in(8) {
         damage_map(numbers, &mut regions);
     }
@@ -646,6 +747,7 @@ pub fn load_case(numbers: &mut Numbers) -> LoadCase {
     LoadCase {
         map: regions.map,
         table,
+        order,
         memory: numbers.bytes(size as usize),
     }
 }
@@ -655,13 +757,15 @@ pub fn load_case(numbers: &mut Numbers) -> LoadCase {
 pub struct JoinCase {
     pub first: Vec<u8>,
     pub second: Vec<u8>,
+    pub order: ByteOrder,
     pub output: Vec<u8>,
 }
 
 pub fn join_case(numbers: &mut Numbers) -> JoinCase {
     let regions = sound_map(numbers);
-    let first = boot_table(numbers, &regions, 5);
-    let second = boot_table(numbers, &regions, 5);
+    let order = numbers.order();
+    let first = boot_table(numbers, &regions, 5, order);
+    let second = boot_table(numbers, &regions, 5, order);
     let result = (first.len() + second.len()).saturating_sub(8) as u64;
     let size = match numbers.below(10) {
         0 => result.saturating_sub(1),
@@ -672,6 +776,7 @@ pub fn join_case(numbers: &mut Numbers) -> JoinCase {
     JoinCase {
         first,
         second,
+        order,
         output: numbers.bytes(size as usize),
     }
 }

@@ -4,8 +4,8 @@
 //! runs, and strap values are taken apart with shifts and masks.
 
 use crate::reference::{
-    ConfigAnswer, JoinAnswer, LabelAnswer, LoadAnswer, MapAnswer, Refusal, SameAnswer, StrapAnswer,
-    CONFIG_LIMIT, MAP_LIMIT, REGISTER_LIMIT, STRAP_LIMIT, TABLE_LIMIT, TOP,
+    ByteOrder, ConfigAnswer, JoinAnswer, LabelAnswer, LoadAnswer, MapAnswer, Refusal, SameAnswer,
+    StrapAnswer, CONFIG_LIMIT, MAP_LIMIT, REGISTER_LIMIT, STRAP_LIMIT, TABLE_LIMIT, TOP,
 };
 use std::borrow::Cow;
 use std::cell::OnceCell;
@@ -17,10 +17,14 @@ fn refuse<T>(number: u64, place: usize) -> Result<T, Refusal> {
     })
 }
 
-/// The word at an offset.
+/// The four bytes at an offset.
+fn four(bytes: &[u8], at: usize) -> [u8; 4] {
+    bytes[at..at + 4].try_into().expect("four bytes")
+}
+
+/// The word at an offset of a map or a configuration table.
 fn word(bytes: &[u8], at: usize) -> u32 {
-    let four = bytes[at..at + 4].try_into().expect("four bytes");
-    u32::from_be_bytes(four)
+    u32::from_be_bytes(four(bytes, at))
 }
 
 // The region map.
@@ -236,7 +240,18 @@ pub fn map(map: &[u8]) -> MapAnswer {
     }
 }
 
-// The boot table.
+// The boot table. What reads header words is compiled once for each order, so
+// that the loops do not test the order.
+
+/// The header word at an offset.
+fn header_word<const LOW_FIRST: bool>(table: &[u8], at: usize) -> u32 {
+    let bytes = four(table, at);
+    if LOW_FIRST {
+        u32::from_le_bytes(bytes)
+    } else {
+        u32::from_be_bytes(bytes)
+    }
+}
 
 /// The offset past a section that begins at `at`, a multiple of four: past its
 /// two words and its size, rounded up to the next multiple.
@@ -248,7 +263,10 @@ fn next_section(at: usize, size: u32) -> usize {
 /// their count or the first fault of the form. Of a section its two words are
 /// read and nothing else.
 #[inline(always)]
-fn walk(table: &[u8], mut tell: impl FnMut(usize, u64, u64)) -> Result<u64, Refusal> {
+fn walk<const LOW_FIRST: bool>(
+    table: &[u8],
+    mut tell: impl FnMut(usize, u64, u64),
+) -> Result<u64, Refusal> {
     if table.len() > TABLE_LIMIT {
         return refuse(4, 0);
     }
@@ -261,7 +279,7 @@ fn walk(table: &[u8], mut tell: impl FnMut(usize, u64, u64)) -> Result<u64, Refu
         if table.len() - at < 4 {
             return refuse(5, at);
         }
-        let size = word(table, at);
+        let size = header_word::<LOW_FIRST>(table, at);
         if size == 0 {
             if table.len() > at + 4 {
                 return refuse(7, at + 4);
@@ -272,7 +290,7 @@ fn walk(table: &[u8], mut tell: impl FnMut(usize, u64, u64)) -> Result<u64, Refu
         if next > table.len() {
             return refuse(5, at);
         }
-        let address = u64::from(word(table, at + 4));
+        let address = u64::from(header_word::<LOW_FIRST>(table, at + 4));
         if address + u64::from(size) > TOP {
             return refuse(8, at);
         }
@@ -293,14 +311,14 @@ fn load_refused(refusal: Refusal) -> LoadAnswer {
 }
 
 /// The form, then the map rule, in one walk.
-fn judge_table(open: &[Span], table: &[u8]) -> LoadAnswer {
+fn judge_table<const LOW_FIRST: bool>(open: &[Span], table: &[u8]) -> LoadAnswer {
     let open = joined(open);
     let lookup = Lookup::new(&open);
     let mut bytes = 0;
     let mut closed = None;
     // The span of the section before.
     let mut known = open.first().copied().unwrap_or_default();
-    let walked = walk(table, |place, address, size| {
+    let walked = walk::<LOW_FIRST>(table, |place, address, size| {
         bytes += size;
         let offset = known.offset(address);
         if offset < known.length && size <= known.length - offset {
@@ -329,7 +347,7 @@ fn judge_table(open: &[Span], table: &[u8]) -> LoadAnswer {
             ..Default::default()
         };
     }
-    let entry = u64::from(word(table, 0));
+    let entry = u64::from(header_word::<LOW_FIRST>(table, 0));
     let entry_open = known.offset(entry) < known.length || lookup.holding(entry).is_some();
     LoadAnswer {
         entry,
@@ -340,14 +358,28 @@ fn judge_table(open: &[Span], table: &[u8]) -> LoadAnswer {
     }
 }
 
-pub fn judge(map: &[u8], table: &[u8]) -> LoadAnswer {
-    match Records::read(map) {
-        Err(refusal) => load_refused(refusal),
-        Ok(records) => judge_table(&records.open(), table),
+pub fn judge(map: &[u8], table: &[u8], order: ByteOrder) -> LoadAnswer {
+    match order {
+        ByteOrder::HighFirst => judge_in::<false>(map, table),
+        ByteOrder::LowFirst => judge_in::<true>(map, table),
     }
 }
 
-pub fn load(map: &[u8], table: &[u8], memory: &mut [u8]) -> LoadAnswer {
+fn judge_in<const LOW_FIRST: bool>(map: &[u8], table: &[u8]) -> LoadAnswer {
+    match Records::read(map) {
+        Err(refusal) => load_refused(refusal),
+        Ok(records) => judge_table::<LOW_FIRST>(&records.open(), table),
+    }
+}
+
+pub fn load(map: &[u8], table: &[u8], order: ByteOrder, memory: &mut [u8]) -> LoadAnswer {
+    match order {
+        ByteOrder::HighFirst => load_in::<false>(map, table, memory),
+        ByteOrder::LowFirst => load_in::<true>(map, table, memory),
+    }
+}
+
+fn load_in<const LOW_FIRST: bool>(map: &[u8], table: &[u8], memory: &mut [u8]) -> LoadAnswer {
     let records = match Records::read(map) {
         Err(refusal) => return load_refused(refusal),
         Ok(records) => records,
@@ -359,24 +391,26 @@ pub fn load(map: &[u8], table: &[u8], memory: &mut [u8]) -> LoadAnswer {
         });
     }
     let open = records.open();
-    let answer = judge_table(&open, table);
+    let answer = judge_table::<LOW_FIRST>(&open, table);
     if answer.number == 0 {
-        store(&open, table, memory);
+        store::<LOW_FIRST>(&open, table, memory);
     }
     answer
 }
 
-/// Stores the sections of an accepted table.
-fn store(spans: &[Span], table: &[u8], memory: &mut [u8]) {
+/// Stores the sections of an accepted table. Not inlined, so that the loops of
+/// both orders are compiled alike.
+#[inline(never)]
+fn store<const LOW_FIRST: bool>(spans: &[Span], table: &[u8], memory: &mut [u8]) {
     let lookup = Lookup::new(spans);
     let mut at = 4;
     let mut index = 0;
     loop {
-        let size = word(table, at);
+        let size = header_word::<LOW_FIRST>(table, at);
         if size == 0 {
             return;
         }
-        let address = u64::from(word(table, at + 4));
+        let address = u64::from(header_word::<LOW_FIRST>(table, at + 4));
         let mut data = &table[at + 8..][..size as usize];
         at = next_section(at, size);
         // Mostly the span of the section before.
@@ -416,10 +450,17 @@ fn copy(memory: &mut [u8], data: &[u8]) {
 
 // The join.
 
-pub fn join(first: &[u8], second: &[u8], output: &mut [u8]) -> JoinAnswer {
+pub fn join(first: &[u8], second: &[u8], order: ByteOrder, output: &mut [u8]) -> JoinAnswer {
+    match order {
+        ByteOrder::HighFirst => join_in::<false>(first, second, output),
+        ByteOrder::LowFirst => join_in::<true>(first, second, output),
+    }
+}
+
+fn join_in<const LOW_FIRST: bool>(first: &[u8], second: &[u8], output: &mut [u8]) -> JoinAnswer {
     let mut sections = 0;
     for (table, bytes) in [(1, first), (2, second)] {
-        match walk(bytes, |_, _, _| ()) {
+        match walk::<LOW_FIRST>(bytes, |_, _, _| ()) {
             Ok(count) => sections += count,
             Err(refusal) => {
                 return JoinAnswer {

@@ -1,6 +1,6 @@
-//! Document 01, as requests 2 and 7 of document 02 mend it, read once more in
-//! plain Rust: the map, the boot table, judging, loading, the join, the
-//! configuration table, the strap value and the lister's text. Addresses are
+//! Document 01, as requests 2, 7 and 8 of document 02 mend it, read once more
+//! in plain Rust: the map, the boot table, judging, loading, the join, the
+//! configuration table, the strap value and the listers' text. Addresses are
 //! looked at one by one and bytes are copied one by one; nothing here is quick.
 
 /// Most bytes in a map: 64 records of 12.
@@ -13,10 +13,33 @@ pub const REGISTER_LIMIT: usize = 1024;
 pub const CONFIG_LIMIT: usize = 49_152;
 /// Greatest strap value.
 pub const STRAP_LIMIT: u32 = 8191;
-/// Most bytes that the lister reads.
+/// Most bytes that a lister reads.
 pub const LISTER_LIMIT: usize = 65_536;
 /// One past the highest address.
 pub const TOP: u64 = 0x1_0000_0000;
+
+/// The byte order of a boot table's header words (entry, size, address), which
+/// the caller gives: high byte first, or low byte first. Data bytes and pads
+/// have none, and the words of maps and configuration tables are always high
+/// first.
+#[derive(Clone, Copy, Debug, PartialEq, Eq)]
+pub enum ByteOrder {
+    HighFirst,
+    LowFirst,
+}
+
+impl ByteOrder {
+    /// The two orders.
+    pub const BOTH: [ByteOrder; 2] = [ByteOrder::HighFirst, ByteOrder::LowFirst];
+
+    /// The other order.
+    pub fn other(self) -> ByteOrder {
+        match self {
+            ByteOrder::HighFirst => ByteOrder::LowFirst,
+            ByteOrder::LowFirst => ByteOrder::HighFirst,
+        }
+    }
+}
 
 /// What a map alone is answered with. The number is 0 where nothing is refused.
 #[derive(Clone, Copy, Debug, Default, PartialEq, Eq)]
@@ -244,6 +267,15 @@ impl Table<'_> {
     }
 }
 
+/// The header word at an offset of a boot table.
+fn header_word(table: &[u8], at: usize, order: ByteOrder) -> u64 {
+    let mut bytes = [0, 1, 2, 3].map(|i| table[at + i]);
+    if order == ByteOrder::LowFirst {
+        bytes.reverse();
+    }
+    word(&bytes, 0)
+}
+
 /// The count of pad bytes after data of a size.
 fn pad_count(size: u64) -> u64 {
     match size % 4 {
@@ -253,7 +285,7 @@ fn pad_count(size: u64) -> u64 {
 }
 
 /// A table's entry and sections, or the first fault of its form.
-pub fn read_table(table: &[u8]) -> Result<Table<'_>, Refusal> {
+pub fn read_table(table: &[u8], order: ByteOrder) -> Result<Table<'_>, Refusal> {
     // 4: over the limit.
     if table.len() > TABLE_LIMIT {
         return refuse(4, 0);
@@ -262,7 +294,7 @@ pub fn read_table(table: &[u8]) -> Result<Table<'_>, Refusal> {
     if table.len() < 4 {
         return refuse(5, 0);
     }
-    let entry = word(table, 0);
+    let entry = header_word(table, 0, order);
     let mut sections = Vec::new();
     let mut at = 4;
     loop {
@@ -271,7 +303,7 @@ pub fn read_table(table: &[u8]) -> Result<Table<'_>, Refusal> {
         if left < 4 {
             return refuse(5, at);
         }
-        let size = word(table, at);
+        let size = header_word(table, at, order);
         if size == 0 {
             // 7: bytes after the zero word.
             if left > 4 {
@@ -285,7 +317,7 @@ pub fn read_table(table: &[u8]) -> Result<Table<'_>, Refusal> {
             return refuse(5, at);
         }
         // 8: address plus size over 2^32.
-        let address = word(table, at + 4);
+        let address = header_word(table, at + 4, order);
         if address + size > TOP {
             return refuse(8, at);
         }
@@ -338,12 +370,12 @@ fn allowed(records: &[Record], table: &Table) -> LoadAnswer {
 }
 
 /// Judging: 1, 2, 4, the form, then 9.
-pub fn judge(map: &[u8], table: &[u8]) -> LoadAnswer {
+pub fn judge(map: &[u8], table: &[u8], order: ByteOrder) -> LoadAnswer {
     let records = match read_map(map) {
         Err(refusal) => return load_refused(refusal),
         Ok(records) => records,
     };
-    match read_table(table) {
+    match read_table(table, order) {
         Err(refusal) => load_refused(refusal),
         Ok(read) => allowed(&records, &read),
     }
@@ -351,7 +383,7 @@ pub fn judge(map: &[u8], table: &[u8]) -> LoadAnswer {
 
 /// Loading: as judging, with 3 after the map. An accepted table's sections are
 /// stored in table order, so the later one wins at a shared address.
-pub fn load(map: &[u8], table: &[u8], memory: &mut [u8]) -> LoadAnswer {
+pub fn load(map: &[u8], table: &[u8], order: ByteOrder, memory: &mut [u8]) -> LoadAnswer {
     let records = match read_map(map) {
         Err(refusal) => return load_refused(refusal),
         Ok(records) => records,
@@ -363,7 +395,7 @@ pub fn load(map: &[u8], table: &[u8], memory: &mut [u8]) -> LoadAnswer {
             place: 0,
         });
     }
-    let read = match read_table(table) {
+    let read = match read_table(table, order) {
         Err(refusal) => return load_refused(refusal),
         Ok(read) => read,
     };
@@ -383,27 +415,31 @@ pub fn load(map: &[u8], table: &[u8], memory: &mut [u8]) -> LoadAnswer {
 
 // The join.
 
-fn put_word(bytes: &mut Vec<u8>, value: u64) {
-    for shift in [24, 16, 8, 0] {
+fn put_header_word(bytes: &mut Vec<u8>, value: u64, order: ByteOrder) {
+    let shifts = match order {
+        ByteOrder::HighFirst => [24, 16, 8, 0],
+        ByteOrder::LowFirst => [0, 8, 16, 24],
+    };
+    for shift in shifts {
         bytes.push((value >> shift) as u8);
     }
 }
 
 /// The join: first table, second table, 10, 11. The result is the second's
-/// entry, the first's sections, the second's sections and the zero word. A
-/// section keeps its pads as they stand.
-pub fn join(first: &[u8], second: &[u8], output: &mut [u8]) -> JoinAnswer {
+/// entry, the first's sections, the second's sections and the zero word, in the
+/// order of the two tables. A section keeps its pads as they stand.
+pub fn join(first: &[u8], second: &[u8], order: ByteOrder, output: &mut [u8]) -> JoinAnswer {
     let table_refused = |refusal: Refusal, table: u64| JoinAnswer {
         number: refusal.number,
         place: refusal.place,
         table,
         ..Default::default()
     };
-    let one = match read_table(first) {
+    let one = match read_table(first, order) {
         Err(refusal) => return table_refused(refusal, 1),
         Ok(read) => read,
     };
-    let two = match read_table(second) {
+    let two = match read_table(second, order) {
         Err(refusal) => return table_refused(refusal, 2),
         Ok(read) => read,
     };
@@ -418,14 +454,14 @@ pub fn join(first: &[u8], second: &[u8], output: &mut [u8]) -> JoinAnswer {
         }
     }
     let mut result = Vec::new();
-    put_word(&mut result, two.entry);
+    put_header_word(&mut result, two.entry, order);
     for section in one.sections.iter().chain(&two.sections) {
-        put_word(&mut result, section.data.len() as u64);
-        put_word(&mut result, section.address);
+        put_header_word(&mut result, section.data.len() as u64, order);
+        put_header_word(&mut result, section.address, order);
         result.extend(section.data);
         result.extend(section.pads);
     }
-    put_word(&mut result, 0);
+    put_header_word(&mut result, 0, order);
     // Output bytes past the result are not touched.
     for (i, byte) in result.iter().enumerate() {
         output[i] = *byte;
@@ -627,14 +663,14 @@ pub fn strap_label(value: u32) -> LabelAnswer {
     }
 }
 
-// The lister.
+// The listers.
 
-/// The text that the lister prints for its whole input.
-pub fn listing(input: &[u8]) -> String {
+/// The text that the lister of an order prints for its whole input.
+pub fn listing(input: &[u8], order: ByteOrder) -> String {
     if input.len() > LISTER_LIMIT {
         return "too long\n".to_string();
     }
-    match read_table(input) {
+    match read_table(input, order) {
         Err(refusal) => format!("refused {} at {}\n", refusal.number, refusal.place),
         Ok(table) => {
             let mut text = format!("entry {:08x}\n", table.entry);

@@ -1,17 +1,27 @@
 //! The library and the reference on generated cases: every field of every
-//! answer and every byte of every buffer. Each refusal from 1 to 19 must be
-//! hit at least a hundred times, but for 6, which is withdrawn and must never be
-//! answered.
+//! answer and every byte of every buffer. Each refusal of each call must be hit
+//! at least a hundred times: those of judging, loading and the join in each byte
+//! order, and the join's refusals of a table for the first and for the second. A
+//! table written in the other order must be refused as often. 6 is withdrawn and
+//! must never be answered.
 
 use second::cases::{self, ConfigCase, JoinCase, LoadCase, Numbers};
-use second::reference::{CONFIG_LIMIT, TABLE_LIMIT};
+use second::reference::{ByteOrder, JoinAnswer, CONFIG_LIMIT, TABLE_LIMIT};
 use second::{calls, reference};
 
 /// Each refusal must be hit at least so often.
 const FLOOR: u64 = 100;
 /// The refusal that is withdrawn: no call answers it.
 const WITHDRAWN: u64 = 6;
-/// A run with fewer cases is a quick look, and its counts are only printed.
+/// The refusals of judging, those of loading, those of the join that name no
+/// table, and those that name one.
+const OF_JUDGING: &[usize] = &[1, 2, 4, 5, 7, 8, 9];
+const OF_LOADS: &[usize] = &[1, 2, 3, 4, 5, 7, 8, 9];
+const OF_JOINS: &[usize] = &[10, 11];
+const OF_JOINED: &[usize] = &[4, 5, 7, 8];
+/// The refusals of the calls that read no boot table.
+const OF_OTHERS: &[usize] = &[12, 13, 14, 15, 16, 17, 18, 19];
+/// A run with fewer cases is a quick look, of which so many are not asked for.
 const FEWEST: u64 = 200_000;
 /// Bytes before and after a lent buffer that no call may touch.
 const GUARD: usize = 16;
@@ -25,6 +35,56 @@ impl Hits {
         assert_ne!(number, WITHDRAWN, "a refusal that is withdrawn");
         self.0[number as usize] += 1;
     }
+
+    /// Prints the counts, and asks for enough of each of these refusals in a
+    /// full run, and for no other.
+    fn close(&self, name: &str, refusals: &[usize], full: bool) {
+        println!("{name}: {:?}", self.0);
+        for (number, times) in self.0.iter().enumerate().skip(1) {
+            let right = match refusals.contains(&number) {
+                true => *times >= FLOOR || !full,
+                false => *times == 0,
+            };
+            assert!(right, "{name}: refusal {number} was hit {times} times");
+        }
+    }
+}
+
+/// The counts of the calls over boot tables of one order.
+#[derive(Default)]
+struct TableHits {
+    judge: Hits,
+    load: Hits,
+    /// By the table that the answer names: none, the first, the second.
+    join: [Hits; 3],
+    /// Refused tables that were written in the other order: read in it they are
+    /// well-formed, with more than one section, since one size word alone may
+    /// have been turned.
+    turned: u64,
+}
+
+impl TableHits {
+    fn add_join(&mut self, answer: &JoinAnswer) {
+        self.join[answer.table as usize].add(answer.number);
+    }
+
+    fn close(&self, name: &str, full: bool) {
+        let [none, first, second] = &self.join;
+        self.judge
+            .close(&format!("{name}, judge"), OF_JUDGING, full);
+        self.load.close(&format!("{name}, load"), OF_LOADS, full);
+        none.close(&format!("{name}, join"), OF_JOINS, full);
+        for (table, hits) in [(1, first), (2, second)] {
+            let name = format!("{name}, join, table {table}");
+            hits.close(&name, OF_JOINED, full);
+            assert_eq!(hits.0[0], 0, "{name}: an acceptance names no table");
+        }
+        println!("{name}, written in the other order: {}", self.turned);
+        assert!(
+            self.turned >= FLOOR || !full,
+            "{name}: too few in the other order"
+        );
+    }
 }
 
 /// A buffer between guard bytes.
@@ -35,8 +95,14 @@ fn guarded<T: Copy>(buffer: &[T], guard: T) -> Vec<T> {
     whole
 }
 
-fn compare_load(case: &LoadCase, hits: &mut Hits) {
-    let LoadCase { map, table, memory } = case;
+fn compare_load(case: &LoadCase, hits: &mut [TableHits; 2]) {
+    let LoadCase {
+        map,
+        table,
+        order,
+        memory,
+    } = case;
+    let order = *order;
     let lent_map = map.clone();
     let lent_table = table.clone();
 
@@ -45,16 +111,16 @@ fn compare_load(case: &LoadCase, hits: &mut Hits) {
         reference::map(map),
         "map of {case:?}"
     );
-    let judged = calls::judge(&lent_map, &lent_table);
-    assert_eq!(judged, reference::judge(map, table), "judging {case:?}");
-    assert_ne!(judged.number, WITHDRAWN, "judging {case:?}");
+    let judged = calls::judge(&lent_map, &lent_table, order);
+    let expected = reference::judge(map, table, order);
+    assert_eq!(judged, expected, "judging {case:?}");
 
     let before = guarded(memory, 0xC9);
     let mut lent = before.clone();
     let mut other = before.clone();
     let range = GUARD..GUARD + memory.len();
-    let answer = calls::load(&lent_map, &lent_table, &mut lent[range.clone()]);
-    let expected = reference::load(map, table, &mut other[range]);
+    let answer = calls::load(&lent_map, &lent_table, order, &mut lent[range.clone()]);
+    let expected = reference::load(map, table, order, &mut other[range]);
     assert_eq!(answer, expected, "loading {case:?}");
     assert_eq!(lent, other, "memory after loading {case:?}");
     if answer.number != 0 {
@@ -62,23 +128,31 @@ fn compare_load(case: &LoadCase, hits: &mut Hits) {
     }
     assert_eq!(&lent_map, map, "the map is only read");
     assert_eq!(&lent_table, table, "the table is only read");
-    hits.add(answer.number);
+
+    let hits = &mut hits[order as usize];
+    hits.judge.add(judged.number);
+    hits.load.add(answer.number);
+    let other = reference::read_table(table, order.other());
+    let turned = other.is_ok_and(|table| table.sections.len() > 1);
+    hits.turned += u64::from(turned && answer.number == 5);
 }
 
-fn compare_join(case: &JoinCase, hits: &mut Hits) {
+fn compare_join(case: &JoinCase, hits: &mut [TableHits; 2]) {
     let JoinCase {
         first,
         second,
+        order,
         output,
     } = case;
+    let order = *order;
     let lent_first = first.clone();
     let lent_second = second.clone();
     let before = guarded(output, 0x9C);
     let mut lent = before.clone();
     let mut other = before.clone();
     let range = GUARD..GUARD + output.len();
-    let answer = calls::join(&lent_first, &lent_second, &mut lent[range.clone()]);
-    let expected = reference::join(first, second, &mut other[range]);
+    let answer = calls::join(&lent_first, &lent_second, order, &mut lent[range.clone()]);
+    let expected = reference::join(first, second, order, &mut other[range]);
     assert_eq!(answer, expected, "joining {case:?}");
     assert_eq!(lent, other, "output after joining {case:?}");
     if answer.number != 0 {
@@ -86,7 +160,7 @@ fn compare_join(case: &JoinCase, hits: &mut Hits) {
     }
     assert_eq!(&lent_first, first, "the first table is only read");
     assert_eq!(&lent_second, second, "the second table is only read");
-    hits.add(answer.number);
+    hits[order as usize].add_join(&answer);
 }
 
 fn compare_config(case: &ConfigCase, hits: &mut Hits) {
@@ -134,16 +208,17 @@ fn compare_strap(value: u32, other: u32, strict: bool, hits: &mut Hits) {
     hits.add(answer.number);
 }
 
-/// Tables at and over the boot table's limit. One large buffer serves all of
-/// them, and the buffers that are lent stay short.
-fn compare_large(numbers: &mut Numbers, hits: &mut Hits) {
+/// Tables at and over the boot table's limit, which no case of `load_case` and
+/// `join_case` reaches. One large buffer serves all of them, and the buffers
+/// that are lent stay short.
+fn compare_large(numbers: &mut Numbers, order: ByteOrder, hits: &mut TableHits) {
     let map = cases::map(&[(1, 0x0080_0000, 16)]);
     let data = vec![0x5A; TABLE_LIMIT - 16];
     // One section: 16 bytes of words and the data fill the limit.
-    let mut large = cases::table(0x0080_0000, &[(0x1000_0000, &data)]);
+    let mut large = cases::table(0x0080_0000, &[(0x1000_0000, &data)], order);
     assert_eq!(large.len(), TABLE_LIMIT);
     let pads = cases::pads(numbers, 3);
-    let small = cases::padded_table(0x0080_0004, &[(0x0080_0004, &[0xB7], &pads)]);
+    let small = cases::padded_table(0x0080_0004, &[(0x0080_0004, &[0xB7], &pads)], order);
 
     // 10: the join is at least one section over the limit.
     for _ in 0..120 {
@@ -155,43 +230,54 @@ fn compare_large(numbers: &mut Numbers, hits: &mut Hits) {
             pair.reverse();
         }
         let length = numbers.index(41);
-        let answer = calls::join(pair[0], pair[1], &mut lent[..length]);
-        let expected = reference::join(pair[0], pair[1], &mut other[..length]);
+        let answer = calls::join(pair[0], pair[1], order, &mut lent[..length]);
+        let expected = reference::join(pair[0], pair[1], order, &mut other[..length]);
         assert_eq!(answer, expected);
         assert_eq!(answer.number, 10);
         assert_eq!(lent, before);
         assert_eq!(other, before);
-        hits.add(answer.number);
+        hits.add_join(&answer);
     }
 
     // A section as long as the limit allows, of which no address is open.
     let mut memory = numbers.bytes(16);
     let before = memory.clone();
-    assert_eq!(calls::judge(&map, &large), reference::judge(&map, &large));
-    let answer = calls::load(&map, &large, &mut memory);
-    assert_eq!(answer, reference::load(&map, &large, &mut before.clone()));
+    let judged = calls::judge(&map, &large, order);
+    assert_eq!(judged, reference::judge(&map, &large, order));
+    hits.judge.add(judged.number);
+    let answer = calls::load(&map, &large, order, &mut memory);
+    assert_eq!(
+        answer,
+        reference::load(&map, &large, order, &mut before.clone())
+    );
     assert_eq!(answer.number, 9);
     assert_eq!(memory, before);
-    hits.add(answer.number);
+    hits.load.add(answer.number);
 
     // 4: over the limit by 1 to 64 bytes, whatever the bytes are.
     large.extend([0; 64]);
     for _ in 0..120 {
         let over = &large[..TABLE_LIMIT + numbers.from_to(1, 64) as usize];
-        assert_eq!(calls::judge(&map, over), reference::judge(&map, over));
+        let judged = calls::judge(&map, over, order);
+        assert_eq!(judged, reference::judge(&map, over, order));
+        hits.judge.add(judged.number);
         let mut lent = before.clone();
-        let answer = calls::load(&map, over, &mut lent);
-        assert_eq!(answer, reference::load(&map, over, &mut before.clone()));
+        let answer = calls::load(&map, over, order, &mut lent);
+        assert_eq!(
+            answer,
+            reference::load(&map, over, order, &mut before.clone())
+        );
         assert_eq!(lent, before);
         assert_eq!(answer.number, 4);
-        hits.add(answer.number);
-        for pair in [[over, &small], [&small, over], [over, over]] {
+        hits.load.add(answer.number);
+        for (pair, table) in [([over, &small], 1), ([&small, over], 2), ([over, over], 1)] {
             let mut lent = before.clone();
-            let answer = calls::join(pair[0], pair[1], &mut lent);
-            let expected = reference::join(pair[0], pair[1], &mut before.clone());
+            let answer = calls::join(pair[0], pair[1], order, &mut lent);
+            let expected = reference::join(pair[0], pair[1], order, &mut before.clone());
             assert_eq!(answer, expected);
             assert_eq!(lent, before);
-            hits.add(answer.number);
+            assert_eq!((answer.number, answer.table), (4, table));
+            hits.add_join(&answer);
         }
     }
 }
@@ -220,7 +306,9 @@ fn compare_large_config(numbers: &mut Numbers, hits: &mut Hits) {
 fn generated_cases() {
     let seed = cases::seed();
     let count = cases::count();
-    let mut hits = Hits::default();
+    let full = count >= FEWEST;
+    let mut tables = <[TableHits; 2]>::default();
+    let mut others = Hits::default();
 
     // Of the cases half are loads, a quarter joins, the rest is shared.
     let shares = [
@@ -229,22 +317,19 @@ fn generated_cases() {
         count / 6,
         count - count / 2 - count / 4 - count / 6,
     ];
-    let mut accepted = [0; 4];
     let mut numbers = Numbers::new(seed, 1);
     for _ in 0..shares[0] {
-        compare_load(&cases::load_case(&mut numbers), &mut hits);
+        compare_load(&cases::load_case(&mut numbers), &mut tables);
     }
-    accepted[0] = hits.0[0];
     let mut numbers = Numbers::new(seed, 2);
     for _ in 0..shares[1] {
-        compare_join(&cases::join_case(&mut numbers), &mut hits);
+        compare_join(&cases::join_case(&mut numbers), &mut tables);
     }
-    accepted[1] = hits.0[0] - accepted[0];
     let mut numbers = Numbers::new(seed, 3);
     for _ in 0..shares[2] {
-        compare_config(&cases::config_case(&mut numbers), &mut hits);
+        compare_config(&cases::config_case(&mut numbers), &mut others);
     }
-    accepted[2] = hits.0[0] - accepted[0] - accepted[1];
+    let configures = others.0[0];
     let mut numbers = Numbers::new(seed, 4);
     for _ in 0..shares[3] {
         let value = cases::strap_value(&mut numbers);
@@ -253,25 +338,35 @@ fn generated_cases() {
             0 => value ^ (1 << numbers.below(14)),
             _ => cases::strap_value(&mut numbers),
         };
-        compare_strap(value, other, numbers.once_in(2), &mut hits);
+        compare_strap(value, other, numbers.once_in(2), &mut others);
     }
-    accepted[3] = hits.0[0] - accepted[0] - accepted[1] - accepted[2];
+    let straps = others.0[0] - configures;
 
     let mut numbers = Numbers::new(seed, 5);
-    compare_large(&mut numbers, &mut hits);
-    compare_large_config(&mut numbers, &mut hits);
-
-    println!("seed {seed}, {count} cases");
-    println!("accepted: load, join, configure, strap {accepted:?}");
-    for (number, times) in hits.0.iter().enumerate() {
-        println!("answer {number}: {times}");
+    for order in ByteOrder::BOTH {
+        compare_large(&mut numbers, order, &mut tables[order as usize]);
     }
-    if count >= FEWEST {
-        for (number, times) in hits.0.iter().enumerate().skip(1) {
-            let enough = *times >= FLOOR || number as u64 == WITHDRAWN;
-            assert!(enough, "refusal {number} was hit {times} times");
-        }
-        for (share, times) in shares.iter().zip(accepted) {
+    compare_large_config(&mut numbers, &mut others);
+
+    let loads = tables.each_ref().map(|hits| hits.load.0[0]);
+    let joins = tables.each_ref().map(|hits| hits.join[0].0[0]);
+    println!("seed {seed}, {count} cases; accepted, boot tables in each order:");
+    println!("load {loads:?}, join {joins:?}, configure {configures}, strap {straps}");
+    println!("how often each number was answered, from 0 on:");
+    for order in ByteOrder::BOTH {
+        tables[order as usize].close(&format!("{order:?}"), full);
+    }
+    others.close("others", OF_OTHERS, full);
+    if full {
+        // A tenth of each share, and of a share in two orders a tenth of its half.
+        for (times, share) in [
+            (loads[0], shares[0] / 2),
+            (loads[1], shares[0] / 2),
+            (joins[0], shares[1] / 2),
+            (joins[1], shares[1] / 2),
+            (configures, shares[2]),
+            (straps, shares[3]),
+        ] {
             assert!(times >= share / 10, "{times} of {share} were accepted");
         }
     }

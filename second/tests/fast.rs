@@ -2,7 +2,7 @@
 //! every answer and every byte of every buffer, so that the peer is right.
 
 use second::cases::{self, LoadCase, Numbers};
-use second::reference::{STRAP_LIMIT, TABLE_LIMIT, TOP};
+use second::reference::{ByteOrder, STRAP_LIMIT, TABLE_LIMIT, TOP};
 use second::{fast, reference};
 
 /// The generated cases of each call.
@@ -17,38 +17,41 @@ fn all_hit(hits: &[u64; 20], numbers: &[usize]) {
     assert_eq!(hits[6], 0, "number 6 was answered");
 }
 
-/// Compares map, judging and loading, and counts the number of loading.
-fn compare_load(case: &LoadCase, hits: &mut [u64; 20]) {
+/// Compares map, judging and loading, and counts the number of loading in the
+/// case's order.
+fn compare_load(case: &LoadCase, hits: &mut [[u64; 20]; 2]) {
     assert_eq!(
         fast::map(&case.map),
         reference::map(&case.map),
         "map of {case:?}"
     );
     assert_eq!(
-        fast::judge(&case.map, &case.table),
-        reference::judge(&case.map, &case.table),
+        fast::judge(&case.map, &case.table, case.order),
+        reference::judge(&case.map, &case.table, case.order),
         "judging {case:?}"
     );
     let mut memory = case.memory.clone();
     let mut expected = case.memory.clone();
-    let answer = fast::load(&case.map, &case.table, &mut memory);
+    let answer = fast::load(&case.map, &case.table, case.order, &mut memory);
     assert_eq!(
         answer,
-        reference::load(&case.map, &case.table, &mut expected),
+        reference::load(&case.map, &case.table, case.order, &mut expected),
         "loading {case:?}"
     );
     assert_eq!(memory, expected, "memory after loading {case:?}");
-    hits[answer.number as usize] += 1;
+    hits[case.order as usize][answer.number as usize] += 1;
 }
 
 #[test]
 fn judging_and_loading() {
     let mut numbers = Numbers::new(cases::seed(), 71);
-    let mut hits = [0; 20];
+    let mut hits = [[0; 20]; 2];
     for _ in 0..CASES {
         compare_load(&cases::load_case(&mut numbers), &mut hits);
     }
-    all_hit(&hits, &[0, 1, 2, 3, 5, 7, 8, 9]);
+    for hits in &hits {
+        all_hit(hits, &[0, 1, 2, 3, 5, 7, 8, 9]);
+    }
 }
 
 /// The first address of a new run: the wanted one, or past the runs that it
@@ -100,41 +103,47 @@ fn crowded_map(numbers: &mut Numbers) -> cases::Regions {
 #[test]
 fn crowded_maps() {
     let mut numbers = Numbers::new(cases::seed(), 74);
-    let mut hits = [0; 20];
+    let mut hits = [[0; 20]; 2];
     for _ in 0..CASES {
         let regions = crowded_map(&mut numbers);
-        let table = cases::boot_table(&mut numbers, &regions, 20);
+        let order = numbers.order();
+        let table = cases::boot_table(&mut numbers, &regions, 20, order);
         let memory = numbers.bytes(reference::map(&regions.map).bytes as usize);
         let case = LoadCase {
             map: regions.map,
             table,
+            order,
             memory,
         };
         compare_load(&case, &mut hits);
     }
-    all_hit(&hits, &[0, 2, 9]);
-    // Often sound, often not.
-    assert!(hits[0] > CASES / 10 && hits[2] > CASES / 10, "{hits:?}");
+    for hits in &hits {
+        all_hit(hits, &[0, 2, 9]);
+        // Often sound, often not.
+        assert!(hits[0] > CASES / 20 && hits[2] > CASES / 20, "{hits:?}");
+    }
 }
 
 #[test]
 fn joining() {
     let mut numbers = Numbers::new(cases::seed(), 72);
-    let mut hits = [0; 20];
+    let mut hits = [[0; 20]; 2];
     for _ in 0..CASES {
         let case = cases::join_case(&mut numbers);
         let mut output = case.output.clone();
         let mut expected = case.output.clone();
-        let answer = fast::join(&case.first, &case.second, &mut output);
+        let answer = fast::join(&case.first, &case.second, case.order, &mut output);
         assert_eq!(
             answer,
-            reference::join(&case.first, &case.second, &mut expected),
+            reference::join(&case.first, &case.second, case.order, &mut expected),
             "joining {case:?}"
         );
         assert_eq!(output, expected, "output after joining {case:?}");
-        hits[answer.number as usize] += 1;
+        hits[case.order as usize][answer.number as usize] += 1;
     }
-    all_hit(&hits, &[0, 5, 7, 8, 11]);
+    for hits in &hits {
+        all_hit(hits, &[0, 5, 7, 8, 11]);
+    }
 }
 
 #[test]
@@ -205,34 +214,36 @@ fn straps() {
 #[test]
 fn at_the_limit() {
     let map = cases::map(&[(1, 0, 16)]);
-    for size in [TABLE_LIMIT - 16, TABLE_LIMIT - 15, TABLE_LIMIT - 12] {
-        let table = cases::table(0, &[(0, &vec![7; size])]);
-        assert_eq!(
-            fast::judge(&map, &table),
-            reference::judge(&map, &table),
-            "judging {size} data bytes"
-        );
-        let mut memory = [1; 16];
-        let mut expected = memory;
-        assert_eq!(
-            fast::load(&map, &table, &mut memory),
-            reference::load(&map, &table, &mut expected),
-            "loading {size} data bytes"
-        );
-        assert_eq!(memory, expected, "memory with {size} data bytes");
-    }
-    let first = cases::table(1, &[(0, &vec![8; TABLE_LIMIT / 2])]);
-    for less in [8, 12, 24, 28] {
-        let second = cases::table(2, &[(0, &vec![9; TABLE_LIMIT / 2 - less])]);
-        let mut output = vec![3; TABLE_LIMIT + 4];
-        let mut expected = output.clone();
-        let answer = fast::join(&first, &second, &mut output);
-        assert_eq!(
-            answer,
-            reference::join(&first, &second, &mut expected),
-            "joining, {less} less"
-        );
-        assert!(output == expected, "output, {less} less");
-        assert_eq!(answer.number, if less < 24 { 10 } else { 0 });
+    for order in ByteOrder::BOTH {
+        for size in [TABLE_LIMIT - 16, TABLE_LIMIT - 15, TABLE_LIMIT - 12] {
+            let table = cases::table(0, &[(0, &vec![7; size])], order);
+            assert_eq!(
+                fast::judge(&map, &table, order),
+                reference::judge(&map, &table, order),
+                "judging {size} data bytes"
+            );
+            let mut memory = [1; 16];
+            let mut expected = memory;
+            assert_eq!(
+                fast::load(&map, &table, order, &mut memory),
+                reference::load(&map, &table, order, &mut expected),
+                "loading {size} data bytes"
+            );
+            assert_eq!(memory, expected, "memory with {size} data bytes");
+        }
+        let first = cases::table(1, &[(0, &vec![8; TABLE_LIMIT / 2])], order);
+        for less in [8, 12, 24, 28] {
+            let second = cases::table(2, &[(0, &vec![9; TABLE_LIMIT / 2 - less])], order);
+            let mut output = vec![3; TABLE_LIMIT + 4];
+            let mut expected = output.clone();
+            let answer = fast::join(&first, &second, order, &mut output);
+            assert_eq!(
+                answer,
+                reference::join(&first, &second, order, &mut expected),
+                "joining, {less} less"
+            );
+            assert!(output == expected, "output, {less} less");
+            assert_eq!(answer.number, if less < 24 { 10 } else { 0 });
+        }
     }
 }

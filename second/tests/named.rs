@@ -1,22 +1,23 @@
 //! Cases by name: the bench cards, what students write first, and bad inputs
 //! one by one. Expected values are written by hand from document 01 as requests
-//! 2 and 7 of document 02 mend it, and both the library and the reference must
-//! give them.
+//! 2, 7 and 8 of document 02 mend it, and both the library and the reference
+//! must give them. Cases over boot tables are run in both byte orders: cards 1
+//! to 3 high first, with `p_and_q_low_first` and `p_and_q_joined_low_first` as
+//! their counterparts low first.
 
 use second::cases::{
-    self, config, entries, map, padded_section, padded_table, record, table, Numbers,
+    self, config, entries, header_word, map, p, padded_section, padded_table, record, table,
+    turn_word, Numbers, P, P_LOW,
 };
+use second::reference::ByteOrder::{self, HighFirst, LowFirst};
 use second::reference::{
     ConfigAnswer, JoinAnswer, LabelAnswer, LoadAnswer, MapAnswer, SameAnswer, StrapAnswer,
     TABLE_LIMIT,
 };
 use second::{calls, reference};
 
-// Map M and tables P and Q of the bench cards.
+// Map M and table Q of the bench cards.
 const M: [u8; 12] = [0x52, 0x47, 1, 0, 0, 0x80, 0, 0, 0, 0, 0, 0x10];
-const P: [u8; 20] = [
-    0, 0x80, 0, 0, 0, 0, 0, 3, 0, 0x80, 0, 2, 0xA1, 0xA2, 0xA3, 0, 0, 0, 0, 0,
-];
 const Q: [u8; 20] = [
     0, 0x80, 0, 4, 0, 0, 0, 1, 0, 0x80, 0, 4, 0xB7, 0, 0, 0, 0, 0, 0, 0,
 ];
@@ -24,14 +25,40 @@ const Q: [u8; 20] = [
 const P_01: [u8; 20] = [
     0, 0x80, 0, 0, 0, 0, 0, 3, 0, 0x80, 0, 2, 0xA1, 0xA2, 0xA3, 1, 0, 0, 0, 0,
 ];
+/// Q and P with its pad byte 01, low first.
+const Q_LOW: [u8; 20] = [
+    4, 0, 0x80, 0, 1, 0, 0, 0, 4, 0, 0x80, 0, 0xB7, 0, 0, 0, 0, 0, 0, 0,
+];
+const P_01_LOW: [u8; 20] = [
+    0, 0, 0x80, 0, 3, 0, 0, 0, 2, 0, 0x80, 0, 0xA1, 0xA2, 0xA3, 1, 0, 0, 0, 0,
+];
 /// Memory for M: place i holds 0x60 plus i.
 const MEMORY: [u8; 16] = [
     0x60, 0x61, 0x62, 0x63, 0x64, 0x65, 0x66, 0x67, 0x68, 0x69, 0x6A, 0x6B, 0x6C, 0x6D, 0x6E, 0x6F,
 ];
 
-type Judge = fn(&[u8], &[u8]) -> LoadAnswer;
-type Load = fn(&[u8], &[u8], &mut [u8]) -> LoadAnswer;
-type Join = fn(&[u8], &[u8], &mut [u8]) -> JoinAnswer;
+fn q(order: ByteOrder) -> &'static [u8; 20] {
+    [&Q, &Q_LOW][order as usize]
+}
+
+fn p_01(order: ByteOrder) -> &'static [u8; 20] {
+    [&P_01, &P_01_LOW][order as usize]
+}
+
+/// A table written out high first, in an order; `words` are the offsets of its
+/// header words.
+fn written<const N: usize>(mut high: [u8; N], words: &[usize], order: ByteOrder) -> [u8; N] {
+    if order == LowFirst {
+        for at in words {
+            turn_word(&mut high, *at);
+        }
+    }
+    high
+}
+
+type Judge = fn(&[u8], &[u8], ByteOrder) -> LoadAnswer;
+type Load = fn(&[u8], &[u8], ByteOrder, &mut [u8]) -> LoadAnswer;
+type Join = fn(&[u8], &[u8], ByteOrder, &mut [u8]) -> JoinAnswer;
 type Configure = fn(&[u8], &[u32], &mut [u32]) -> ConfigAnswer;
 
 const LOADS: [(&str, Judge, Load); 2] = [
@@ -84,20 +111,29 @@ fn map_gives(map: &[u8], number: u64, place: u64, bytes: u64) {
 
 /// Loads and judges; memory must go from `before` to `after`. Judging knows no
 /// memory, so refusal 3 is loading's alone.
-fn load_gives(map: &[u8], table: &[u8], before: &[u8], expected: LoadAnswer, after: &[u8]) {
+fn load_gives(
+    map: &[u8],
+    table: &[u8],
+    order: ByteOrder,
+    before: &[u8],
+    expected: LoadAnswer,
+    after: &[u8],
+) {
     for (name, judge, load) in LOADS {
         let mut memory = before.to_vec();
-        assert_eq!(load(map, table, &mut memory), expected, "{name}, loading");
-        assert_eq!(memory, after, "{name}, memory");
+        let answer = load(map, table, order, &mut memory);
+        assert_eq!(answer, expected, "{name}, loading, {order:?}");
+        assert_eq!(memory, after, "{name}, memory, {order:?}");
         if expected.number != 3 {
-            assert_eq!(judge(map, table), expected, "{name}, judging");
+            let answer = judge(map, table, order);
+            assert_eq!(answer, expected, "{name}, judging, {order:?}");
         }
     }
 }
 
 /// A refusal: memory stays as it was.
-fn load_refuses(map: &[u8], table: &[u8], memory: &[u8], expected: LoadAnswer) {
-    load_gives(map, table, memory, expected, memory);
+fn load_refuses(map: &[u8], table: &[u8], order: ByteOrder, memory: &[u8], expected: LoadAnswer) {
+    load_gives(map, table, order, memory, expected, memory);
 }
 
 /// `MEMORY` with some places changed.
@@ -129,21 +165,41 @@ fn join_refused(number: u64, place: u64, table: u64) -> JoinAnswer {
     }
 }
 
-fn join_gives(first: &[u8], second: &[u8], before: &[u8], expected: JoinAnswer, after: &[u8]) {
+fn join_gives(
+    first: &[u8],
+    second: &[u8],
+    order: ByteOrder,
+    before: &[u8],
+    expected: JoinAnswer,
+    after: &[u8],
+) {
     for (name, join) in JOINS {
         let mut output = before.to_vec();
-        assert_eq!(join(first, second, &mut output), expected, "{name}, join");
-        assert!(output == after, "{name}, output");
+        let answer = join(first, second, order, &mut output);
+        assert_eq!(answer, expected, "{name}, join, {order:?}");
+        assert!(output == after, "{name}, output, {order:?}");
     }
+}
+
+/// A refusal of the join: output stays as it was.
+fn join_refuses(
+    first: &[u8],
+    second: &[u8],
+    order: ByteOrder,
+    output: &[u8],
+    expected: JoinAnswer,
+) {
+    join_gives(first, second, order, output, expected, output);
 }
 
 /// A refusal of a table's form: in judging and loading, and on both sides of
 /// the join.
-fn form_refused(table: &[u8], number: u64, place: u64) {
-    load_refuses(&M, table, &MEMORY, refused(number, place));
+fn form_refused(table: &[u8], order: ByteOrder, number: u64, place: u64) {
+    load_refuses(&M, table, order, &MEMORY, refused(number, place));
     let output = [0xEE; 64];
-    join_gives(table, &Q, &output, join_refused(number, place, 1), &output);
-    join_gives(&Q, table, &output, join_refused(number, place, 2), &output);
+    let answer = |side| join_refused(number, place, side);
+    join_refuses(table, q(order), order, &output, answer(1));
+    join_refuses(q(order), table, order, &output, answer(2));
 }
 
 fn configured(entries: u64, bits: u64) -> ConfigAnswer {
@@ -255,7 +311,14 @@ fn same_gives(first: u32, second: u32, number: u64, same: u64) {
 #[test]
 fn card_1_table_p_under_map_m() {
     let after = with(&[(2, 0xA1), (3, 0xA2), (4, 0xA3)]);
-    load_gives(&M, &P, &MEMORY, accepted(0x0080_0000, 1, 1, 3), &after);
+    load_gives(
+        &M,
+        &P,
+        HighFirst,
+        &MEMORY,
+        accepted(0x0080_0000, 1, 1, 3),
+        &after,
+    );
 }
 
 #[test]
@@ -264,10 +327,10 @@ fn card_2_p_joined_with_q() {
         0, 0x80, 0, 4, 0, 0, 0, 3, 0, 0x80, 0, 2, 0xA1, 0xA2, 0xA3, 0, 0, 0, 0, 1, 0, 0x80, 0, 4,
         0xB7, 0, 0, 0, 0, 0, 0, 0,
     ];
-    join_gives(&P, &Q, &[0xEE; 32], joined(32, 2), &result);
+    join_gives(&P, &Q, HighFirst, &[0xEE; 32], joined(32, 2), &result);
     let after = with(&[(2, 0xA1), (3, 0xA2), (4, 0xB7)]);
     let answer = accepted(0x0080_0004, 1, 2, 4);
-    load_gives(&M, &result, &MEMORY, answer, &after);
+    load_gives(&M, &result, HighFirst, &MEMORY, answer, &after);
 }
 
 #[test]
@@ -276,84 +339,133 @@ fn card_3_q_joined_with_p() {
         0, 0x80, 0, 0, 0, 0, 0, 1, 0, 0x80, 0, 4, 0xB7, 0, 0, 0, 0, 0, 0, 3, 0, 0x80, 0, 2, 0xA1,
         0xA2, 0xA3, 0, 0, 0, 0, 0,
     ];
-    join_gives(&Q, &P, &[0xEE; 32], joined(32, 2), &result);
+    join_gives(&Q, &P, HighFirst, &[0xEE; 32], joined(32, 2), &result);
     let after = with(&[(2, 0xA1), (3, 0xA2), (4, 0xA3)]);
     let answer = accepted(0x0080_0000, 1, 2, 4);
-    load_gives(&M, &result, &MEMORY, answer, &after);
+    load_gives(&M, &result, HighFirst, &MEMORY, answer, &after);
 }
 
 #[test]
 fn card_4_an_entry_word_and_a_zero_word() {
-    let open = [0, 0x80, 0, 0x0F, 0, 0, 0, 0];
-    let closed = [0, 0x80, 0, 0x10, 0, 0, 0, 0];
-    load_gives(&M, &open, &MEMORY, accepted(0x0080_000F, 1, 0, 0), &MEMORY);
-    load_gives(
-        &M,
-        &closed,
-        &MEMORY,
-        accepted(0x0080_0010, 0, 0, 0),
-        &MEMORY,
-    );
+    for order in ByteOrder::BOTH {
+        let open = written([0, 0x80, 0, 0x0F, 0, 0, 0, 0], &[0], order);
+        let closed = written([0, 0x80, 0, 0x10, 0, 0, 0, 0], &[0], order);
+        load_gives(
+            &M,
+            &open,
+            order,
+            &MEMORY,
+            accepted(0x0080_000F, 1, 0, 0),
+            &MEMORY,
+        );
+        load_gives(
+            &M,
+            &closed,
+            order,
+            &MEMORY,
+            accepted(0x0080_0010, 0, 0, 0),
+            &MEMORY,
+        );
+    }
 }
 
 #[test]
 fn card_5_cut_and_lengthened() {
-    load_refuses(&M, &[], &MEMORY, refused(5, 0));
-    load_refuses(&M, &P[..19], &MEMORY, refused(5, 16));
-    for more in [0, 1, 0xFF] {
-        let longer = [&P[..], &[more]].concat();
-        load_refuses(&M, &longer, &MEMORY, refused(7, 20));
+    for order in ByteOrder::BOTH {
+        load_refuses(&M, &[], order, &MEMORY, refused(5, 0));
+        load_refuses(&M, &p(order)[..19], order, &MEMORY, refused(5, 16));
+        for more in [0, 1, 0xFF] {
+            let longer = [&p(order)[..], &[more]].concat();
+            load_refuses(&M, &longer, order, &MEMORY, refused(7, 20));
+        }
     }
 }
 
 #[test]
 fn card_6_p_with_its_pad_byte_01() {
-    // P's answer and P's memory.
-    let after = with(&[(2, 0xA1), (3, 0xA2), (4, 0xA3)]);
-    load_gives(&M, &P_01, &MEMORY, accepted(0x0080_0000, 1, 1, 3), &after);
+    for order in ByteOrder::BOTH {
+        // P's answer and P's memory.
+        let after = with(&[(2, 0xA1), (3, 0xA2), (4, 0xA3)]);
+        load_gives(
+            &M,
+            p_01(order),
+            order,
+            &MEMORY,
+            accepted(0x0080_0000, 1, 1, 3),
+            &after,
+        );
+    }
 }
 
 #[test]
 fn card_6_joined_with_q_both_ways() {
-    // The byte 01 stands after A3, first at 15 and then at 27.
-    let result = [
-        0, 0x80, 0, 4, 0, 0, 0, 3, 0, 0x80, 0, 2, 0xA1, 0xA2, 0xA3, 1, 0, 0, 0, 1, 0, 0x80, 0, 4,
-        0xB7, 0, 0, 0, 0, 0, 0, 0,
-    ];
-    join_gives(&P_01, &Q, &[0xEE; 32], joined(32, 2), &result);
-    let after = with(&[(2, 0xA1), (3, 0xA2), (4, 0xB7)]);
-    let answer = accepted(0x0080_0004, 1, 2, 4);
-    load_gives(&M, &result, &MEMORY, answer, &after);
-    let result = [
-        0, 0x80, 0, 0, 0, 0, 0, 1, 0, 0x80, 0, 4, 0xB7, 0, 0, 0, 0, 0, 0, 3, 0, 0x80, 0, 2, 0xA1,
-        0xA2, 0xA3, 1, 0, 0, 0, 0,
-    ];
-    join_gives(&Q, &P_01, &[0xEE; 32], joined(32, 2), &result);
-    let after = with(&[(2, 0xA1), (3, 0xA2), (4, 0xA3)]);
-    let answer = accepted(0x0080_0000, 1, 2, 4);
-    load_gives(&M, &result, &MEMORY, answer, &after);
+    for order in ByteOrder::BOTH {
+        // The byte 01 stands after A3, first at 15 and then at 27.
+        let result = written(
+            [
+                0, 0x80, 0, 4, 0, 0, 0, 3, 0, 0x80, 0, 2, 0xA1, 0xA2, 0xA3, 1, 0, 0, 0, 1, 0, 0x80,
+                0, 4, 0xB7, 0, 0, 0, 0, 0, 0, 0,
+            ],
+            &[0, 4, 8, 16, 20],
+            order,
+        );
+        join_gives(
+            p_01(order),
+            q(order),
+            order,
+            &[0xEE; 32],
+            joined(32, 2),
+            &result,
+        );
+        let after = with(&[(2, 0xA1), (3, 0xA2), (4, 0xB7)]);
+        let answer = accepted(0x0080_0004, 1, 2, 4);
+        load_gives(&M, &result, order, &MEMORY, answer, &after);
+        let result = written(
+            [
+                0, 0x80, 0, 0, 0, 0, 0, 1, 0, 0x80, 0, 4, 0xB7, 0, 0, 0, 0, 0, 0, 3, 0, 0x80, 0, 2,
+                0xA1, 0xA2, 0xA3, 1, 0, 0, 0, 0,
+            ],
+            &[0, 4, 8, 16, 20],
+            order,
+        );
+        join_gives(
+            q(order),
+            p_01(order),
+            order,
+            &[0xEE; 32],
+            joined(32, 2),
+            &result,
+        );
+        let after = with(&[(2, 0xA1), (3, 0xA2), (4, 0xA3)]);
+        let answer = accepted(0x0080_0000, 1, 2, 4);
+        load_gives(&M, &result, order, &MEMORY, answer, &after);
+    }
 }
 
 #[test]
 fn card_7_the_last_address_of_the_map() {
-    let one = table(0, &[(0x0080_000F, &[0xC1])]);
-    let two = table(0, &[(0x0080_000F, &[0xC1, 0xC2])]);
-    let after = with(&[(15, 0xC1)]);
-    load_gives(&M, &one, &MEMORY, accepted(0, 0, 1, 1), &after);
-    load_refuses(&M, &two, &MEMORY, not_open(9, 4, 0x0080_0010));
+    for order in ByteOrder::BOTH {
+        let one = table(0, &[(0x0080_000F, &[0xC1])], order);
+        let two = table(0, &[(0x0080_000F, &[0xC1, 0xC2])], order);
+        let after = with(&[(15, 0xC1)]);
+        load_gives(&M, &one, order, &MEMORY, accepted(0, 0, 1, 1), &after);
+        load_refuses(&M, &two, order, &MEMORY, not_open(9, 4, 0x0080_0010));
+    }
 }
 
 #[test]
 fn card_8_the_top_address() {
-    let one = table(0, &[(0xFFFF_FFFF, &[0xC1])]);
-    let two = table(0, &[(0xFFFF_FFFF, &[0xC1, 0xC2])]);
-    load_refuses(&M, &one, &MEMORY, not_open(9, 4, 0xFFFF_FFFF));
-    load_refuses(&M, &two, &MEMORY, refused(8, 4));
-    // A map that holds the top address takes size 1.
-    let top = map(&[(1, 0xFFFF_FFF0, 16)]);
-    let after = with(&[(15, 0xC1)]);
-    load_gives(&top, &one, &MEMORY, accepted(0, 0, 1, 1), &after);
-    load_refuses(&top, &two, &MEMORY, refused(8, 4));
+    for order in ByteOrder::BOTH {
+        let one = table(0, &[(0xFFFF_FFFF, &[0xC1])], order);
+        let two = table(0, &[(0xFFFF_FFFF, &[0xC1, 0xC2])], order);
+        load_refuses(&M, &one, order, &MEMORY, not_open(9, 4, 0xFFFF_FFFF));
+        load_refuses(&M, &two, order, &MEMORY, refused(8, 4));
+        // A map that holds the top address takes size 1.
+        let top = map(&[(1, 0xFFFF_FFF0, 16)]);
+        let after = with(&[(15, 0xC1)]);
+        load_gives(&top, &one, order, &MEMORY, accepted(0, 0, 1, 1), &after);
+        load_refuses(&top, &two, order, &MEMORY, refused(8, 4));
+    }
 }
 
 #[test]
@@ -391,94 +503,128 @@ fn card_12_straps_160_416_64_8192() {
 
 #[test]
 fn near_sections_are_not_filled_between() {
-    // Three bytes apart: 2 to 4, then 8 and 9. Places 5 to 7 keep their bytes.
-    let after = with(&[(2, 0xA1), (3, 0xA2), (4, 0xA3), (8, 0xD1), (9, 0xD2)]);
-    let near = table(0x0080_0000, &[(0x0080_0008, &[0xD1, 0xD2])]);
-    let result = table(
-        0x0080_0000,
-        &[
-            (0x0080_0002, &[0xA1, 0xA2, 0xA3]),
-            (0x0080_0008, &[0xD1, 0xD2]),
-        ],
-    );
-    join_gives(&P, &near, &[0xEE; 32], joined(32, 2), &result);
-    let answer = accepted(0x0080_0000, 1, 2, 5);
-    load_gives(&M, &result, &MEMORY, answer, &after);
+    for order in ByteOrder::BOTH {
+        // Three bytes apart: 2 to 4, then 8 and 9. Places 5 to 7 keep their bytes.
+        let after = with(&[(2, 0xA1), (3, 0xA2), (4, 0xA3), (8, 0xD1), (9, 0xD2)]);
+        let near = table(0x0080_0000, &[(0x0080_0008, &[0xD1, 0xD2])], order);
+        let result = table(
+            0x0080_0000,
+            &[
+                (0x0080_0002, &[0xA1, 0xA2, 0xA3]),
+                (0x0080_0008, &[0xD1, 0xD2]),
+            ],
+            order,
+        );
+        join_gives(p(order), &near, order, &[0xEE; 32], joined(32, 2), &result);
+        let answer = accepted(0x0080_0000, 1, 2, 5);
+        load_gives(&M, &result, order, &MEMORY, answer, &after);
+    }
 }
 
 #[test]
 fn touching_sections_are_not_merged() {
-    let touching = table(0, &[(0x0080_0005, &[0xD1])]);
-    let result = table(
-        0,
-        &[(0x0080_0002, &[0xA1, 0xA2, 0xA3]), (0x0080_0005, &[0xD1])],
-    );
-    join_gives(&P, &touching, &[0xEE; 32], joined(32, 2), &result);
+    for order in ByteOrder::BOTH {
+        let touching = table(0, &[(0x0080_0005, &[0xD1])], order);
+        let result = table(
+            0,
+            &[(0x0080_0002, &[0xA1, 0xA2, 0xA3]), (0x0080_0005, &[0xD1])],
+            order,
+        );
+        join_gives(
+            p(order),
+            &touching,
+            order,
+            &[0xEE; 32],
+            joined(32, 2),
+            &result,
+        );
+    }
 }
 
 #[test]
 fn pads_are_not_stored() {
-    // P rounded up to four would put its pad at place 5: 00, or 01.
-    for (name, _, load) in LOADS {
-        for bytes in [P, P_01] {
-            let mut memory = MEMORY;
-            assert_eq!(load(&M, &bytes, &mut memory).bytes, 3, "{name}");
-            assert_eq!(memory[5], 0x65, "{name}");
+    for order in ByteOrder::BOTH {
+        // P rounded up to four would put its pad at place 5: 00, or 01.
+        for (name, _, load) in LOADS {
+            for bytes in [p(order), p_01(order)] {
+                let mut memory = MEMORY;
+                assert_eq!(load(&M, bytes, order, &mut memory).bytes, 3, "{name}");
+                assert_eq!(memory[5], 0x65, "{name}");
+            }
         }
-    }
-    // Sizes 1, 2 and 3 that end at the map's last address leave no room for a pad.
-    for size in 1..=3 {
-        let data = &[0xA1, 0xA2, 0xA3][..size];
-        for pad in [0, 0xFF] {
-            let pads = vec![pad; 4 - size];
-            let last = padded_table(0, &[(0x0080_0010 - size as u32, data, &pads)]);
-            let mut after = MEMORY;
-            after[16 - size..].copy_from_slice(data);
-            let answer = accepted(0, 0, 1, size as u64);
-            load_gives(&M, &last, &MEMORY, answer, &after);
+        // Sizes 1, 2 and 3 that end at the map's last address leave no room for a pad.
+        for size in 1..=3 {
+            let data = &[0xA1, 0xA2, 0xA3][..size];
+            for pad in [0, 0xFF] {
+                let pads = vec![pad; 4 - size];
+                let last = padded_table(0, &[(0x0080_0010 - size as u32, data, &pads)], order);
+                let mut after = MEMORY;
+                after[16 - size..].copy_from_slice(data);
+                let answer = accepted(0, 0, 1, size as u64);
+                load_gives(&M, &last, order, &MEMORY, answer, &after);
+            }
         }
     }
 }
 
 #[test]
 fn an_address_does_not_come_round_at_zero() {
-    // In 32 bits 0xFFFFFFFF with size 2 would end at 1, and both bytes are open.
-    let ends = map(&[(1, 0xFFFF_FFFF, 1), (1, 0, 4)]);
-    let two = table(0, &[(0xFFFF_FFFF, &[0xC1, 0xC2])]);
-    load_refuses(&ends, &two, &MEMORY[..5], refused(8, 4));
-    let one = table(0, &[(0xFFFF_FFFF, &[0xC1])]);
-    let after = [0xC1, 0x61, 0x62, 0x63, 0x64];
-    load_gives(&ends, &one, &MEMORY[..5], accepted(0, 1, 1, 1), &after);
+    for order in ByteOrder::BOTH {
+        // In 32 bits 0xFFFFFFFF with size 2 would end at 1, and both bytes are open.
+        let ends = map(&[(1, 0xFFFF_FFFF, 1), (1, 0, 4)]);
+        let two = table(0, &[(0xFFFF_FFFF, &[0xC1, 0xC2])], order);
+        load_refuses(&ends, &two, order, &MEMORY[..5], refused(8, 4));
+        let one = table(0, &[(0xFFFF_FFFF, &[0xC1])], order);
+        let after = [0xC1, 0x61, 0x62, 0x63, 0x64];
+        load_gives(
+            &ends,
+            &one,
+            order,
+            &MEMORY[..5],
+            accepted(0, 1, 1, 1),
+            &after,
+        );
+    }
 }
 
 #[test]
 fn a_fault_in_the_last_section_leaves_the_first_unstored() {
-    let first: (u32, &[u8]) = (0x0080_0002, &[0xA1, 0xA2, 0xA3]);
-    let closed = table(0, &[first, (0x0080_0010, &[1])]);
-    load_refuses(&M, &closed, &MEMORY, not_open(9, 16, 0x0080_0010));
-    let over = table(0, &[first, (0xFFFF_FFFF, &[1, 2])]);
-    load_refuses(&M, &over, &MEMORY, refused(8, 16));
-    let cut = &table(0, &[first, (0x0080_0004, &[1])])[..27];
-    load_refuses(&M, cut, &MEMORY, refused(5, 16));
-    let longer = [&P[..], &[0]].concat();
-    load_refuses(&M, &longer, &MEMORY, refused(7, 20));
-    // A pad that is not zero is no fault: both are stored.
-    let mut pad = table(0, &[first, (0x0080_0004, &[1])]);
-    pad[27] = 1;
-    let after = with(&[(2, 0xA1), (3, 0xA2), (4, 1)]);
-    load_gives(&M, &pad, &MEMORY, accepted(0, 0, 2, 4), &after);
+    for order in ByteOrder::BOTH {
+        let first: (u32, &[u8]) = (0x0080_0002, &[0xA1, 0xA2, 0xA3]);
+        let closed = table(0, &[first, (0x0080_0010, &[1])], order);
+        load_refuses(&M, &closed, order, &MEMORY, not_open(9, 16, 0x0080_0010));
+        let over = table(0, &[first, (0xFFFF_FFFF, &[1, 2])], order);
+        load_refuses(&M, &over, order, &MEMORY, refused(8, 16));
+        let cut = &table(0, &[first, (0x0080_0004, &[1])], order)[..27];
+        load_refuses(&M, cut, order, &MEMORY, refused(5, 16));
+        let longer = [&p(order)[..], &[0]].concat();
+        load_refuses(&M, &longer, order, &MEMORY, refused(7, 20));
+        // A pad that is not zero is no fault: both are stored.
+        let mut pad = table(0, &[first, (0x0080_0004, &[1])], order);
+        pad[27] = 1;
+        let after = with(&[(2, 0xA1), (3, 0xA2), (4, 1)]);
+        load_gives(&M, &pad, order, &MEMORY, accepted(0, 0, 2, 4), &after);
+    }
 }
 
 #[test]
 fn a_reserved_hole_in_the_middle_is_found() {
-    let hole = map(&[(1, 0x0080_0000, 16), (2, 0x0080_0003, 1)]);
-    load_refuses(&hole, &P, &MEMORY, not_open(9, 4, 0x0080_0003));
-    // The reserved record may come before the permitted one.
-    let before = map(&[(2, 0x0080_0003, 1), (1, 0x0080_0000, 16)]);
-    load_refuses(&before, &P, &MEMORY, not_open(9, 4, 0x0080_0003));
-    // A gap between two permitted records is one too.
-    let gap = map(&[(1, 0x0080_0000, 3), (1, 0x0080_0004, 13)]);
-    load_refuses(&gap, &P, &MEMORY, not_open(9, 4, 0x0080_0003));
+    for order in ByteOrder::BOTH {
+        let hole = map(&[(1, 0x0080_0000, 16), (2, 0x0080_0003, 1)]);
+        load_refuses(&hole, p(order), order, &MEMORY, not_open(9, 4, 0x0080_0003));
+        // The reserved record may come before the permitted one.
+        let before = map(&[(2, 0x0080_0003, 1), (1, 0x0080_0000, 16)]);
+        load_refuses(
+            &before,
+            p(order),
+            order,
+            &MEMORY,
+            not_open(9, 4, 0x0080_0003),
+        );
+        // A gap between two permitted records is one too.
+        let gap = map(&[(1, 0x0080_0000, 3), (1, 0x0080_0004, 13)]);
+        load_refuses(&gap, p(order), order, &MEMORY, not_open(9, 4, 0x0080_0003));
+    }
 }
 
 #[test]
@@ -496,19 +642,23 @@ fn clear_comes_before_set() {
 #[test]
 fn an_empty_map() {
     map_gives(&[], 0, 0, 0);
-    let none = [0, 0x80, 0, 0, 0, 0, 0, 0];
-    load_gives(&[], &none, &[], accepted(0x0080_0000, 0, 0, 0), &[]);
-    load_refuses(&[], &P, &[], not_open(9, 4, 0x0080_0002));
-    load_refuses(&[], &P, &[7], refused(3, 0));
+    for order in ByteOrder::BOTH {
+        let none = written([0, 0x80, 0, 0, 0, 0, 0, 0], &[0], order);
+        load_gives(&[], &none, order, &[], accepted(0x0080_0000, 0, 0, 0), &[]);
+        load_refuses(&[], p(order), order, &[], not_open(9, 4, 0x0080_0002));
+        load_refuses(&[], p(order), order, &[7], refused(3, 0));
+    }
 }
 
 #[test]
 fn an_empty_table_and_an_empty_memory() {
-    load_refuses(&M, &[], &MEMORY, refused(5, 0));
-    load_refuses(&[], &[], &[], refused(5, 0));
-    load_refuses(&M, &P, &[], refused(3, 0));
-    // 3 comes before the table's faults.
-    load_refuses(&M, &[], &[], refused(3, 0));
+    for order in ByteOrder::BOTH {
+        load_refuses(&M, &[], order, &MEMORY, refused(5, 0));
+        load_refuses(&[], &[], order, &[], refused(5, 0));
+        load_refuses(&M, p(order), order, &[], refused(3, 0));
+        // 3 comes before the table's faults.
+        load_refuses(&M, &[], order, &[], refused(3, 0));
+    }
 }
 
 #[test]
@@ -520,19 +670,21 @@ fn maps_of_64_records_and_more() {
     assert_eq!(longer.len(), 768);
     longer.push(0x52);
     map_gives(&longer, 1, 0, 0);
-    load_refuses(&longer, &P, &MEMORY, refused(1, 0));
     map_gives(&longer[..767], 1, 0, 0);
-    // The last record's byte stands at place 63.
-    let last = table(0, &[(0x1000 + 2 * 63, &[0xC1])]);
-    let before = [0x77; 64];
-    let mut after = before;
-    after[63] = 0xC1;
-    let answer = accepted(0, 0, 1, 1);
-    load_gives(&map(&ones[..64]), &last, &before, answer, &after);
     // A fault in the last record.
     let mut wrong = ones[..64].to_vec();
     wrong[63].2 = 0;
     map_gives(&map(&wrong), 2, 63, 0);
+    for order in ByteOrder::BOTH {
+        load_refuses(&longer, p(order), order, &MEMORY, refused(1, 0));
+        // The last record's byte stands at place 63.
+        let last = table(0, &[(0x1000 + 2 * 63, &[0xC1])], order);
+        let before = [0x77; 64];
+        let mut after = before;
+        after[63] = 0xC1;
+        let answer = accepted(0, 0, 1, 1);
+        load_gives(&map(&ones[..64]), &last, order, &before, answer, &after);
+    }
 }
 
 #[test]
@@ -567,9 +719,10 @@ fn records_with_one_field_wrong() {
                 let mut middle = right.clone();
                 middle[at] = byte;
                 let place = if allowed.contains(&byte) { 2 } else { 1 };
-                map_gives(&around(&middle), 2, place, 0);
-                if place == 1 {
-                    load_refuses(&around(&middle), &P, &MEMORY, refused(2, 1));
+                let regions = around(&middle);
+                map_gives(&regions, 2, place, 0);
+                for order in ByteOrder::BOTH {
+                    load_refuses(&regions, p(order), order, &MEMORY, refused(2, place));
                 }
             }
         }
@@ -602,18 +755,26 @@ fn permitted_records_touching_overlapping_equal() {
 fn permitted_records_that_end_at_the_top() {
     map_gives(&map(&[(1, 0xFFFF_FFFF, 1)]), 0, 0, 1);
     map_gives(&map(&[(1, 1, 0xFFFF_FFFF)]), 0, 0, 0xFFFF_FFFF);
+    map_gives(&map(&[(1, 1, 0xFFFF_FFFF), (1, 0, 2)]), 2, 1, 0);
     // All addresses: the sum is 2^32.
     let all = map(&[(1, 1, 0xFFFF_FFFF), (1, 0, 1)]);
     map_gives(&all, 0, 0, 0x1_0000_0000);
-    load_refuses(&all, &P, &MEMORY, refused(3, 0));
-    for (name, judge, _) in LOADS {
-        assert_eq!(judge(&all, &P), accepted(0x0080_0000, 1, 1, 3), "{name}");
+    for order in ByteOrder::BOTH {
+        load_refuses(&all, p(order), order, &MEMORY, refused(3, 0));
+        for (name, judge, _) in LOADS {
+            assert_eq!(
+                judge(&all, p(order), order),
+                accepted(0x0080_0000, 1, 1, 3),
+                "{name}"
+            );
+        }
     }
-    map_gives(&map(&[(1, 1, 0xFFFF_FFFF), (1, 0, 2)]), 2, 1, 0);
 }
 
 #[test]
 fn reserved_records_over_everything() {
+    // Reserved records alone ask for no memory.
+    map_gives(&map(&[(2, 0, 0xFFFF_FFFF), (2, 5, 5)]), 0, 0, 0);
     let over = map(&[
         (2, 0, 0xFFFF_FFFF),
         (1, 0x0080_0000, 16),
@@ -621,133 +782,145 @@ fn reserved_records_over_everything() {
         (2, 0, 0xFFFF_FFFF),
     ]);
     map_gives(&over, 0, 0, 16);
-    load_refuses(&over, &P, &MEMORY, not_open(9, 4, 0x0080_0002));
-    let none = table(0x0080_0000, &[]);
-    load_gives(
-        &over,
-        &none,
-        &MEMORY,
-        accepted(0x0080_0000, 0, 0, 0),
-        &MEMORY,
-    );
-    // Reserved records alone ask for no memory.
-    map_gives(&map(&[(2, 0, 0xFFFF_FFFF), (2, 5, 5)]), 0, 0, 0);
+    for order in ByteOrder::BOTH {
+        load_refuses(&over, p(order), order, &MEMORY, not_open(9, 4, 0x0080_0002));
+        let none = table(0x0080_0000, &[], order);
+        load_gives(
+            &over,
+            &none,
+            order,
+            &MEMORY,
+            accepted(0x0080_0000, 0, 0, 0),
+            &MEMORY,
+        );
+    }
 }
 
 // Boot tables.
 
 #[test]
 fn a_table_cut_at_every_length() {
-    for length in 0..20 {
-        let place = match length {
-            0..=3 => 0,
-            4..=15 => 4,
-            _ => 16,
-        };
-        load_refuses(&M, &P[..length], &MEMORY, refused(5, place));
-    }
-    let two = table(
-        0,
-        &[(0x0080_0002, &[0xA1, 0xA2, 0xA3]), (0x0080_0004, &[0xB7])],
-    );
-    assert_eq!(two.len(), 32);
-    for length in 0..32 {
-        let place = match length {
-            0..=3 => 0,
-            4..=15 => 4,
-            16..=27 => 16,
-            _ => 28,
-        };
-        load_refuses(&M, &two[..length], &MEMORY, refused(5, place));
+    for order in ByteOrder::BOTH {
+        for length in 0..20 {
+            let place = match length {
+                0..=3 => 0,
+                4..=15 => 4,
+                _ => 16,
+            };
+            load_refuses(&M, &p(order)[..length], order, &MEMORY, refused(5, place));
+        }
+        let two = table(
+            0,
+            &[(0x0080_0002, &[0xA1, 0xA2, 0xA3]), (0x0080_0004, &[0xB7])],
+            order,
+        );
+        assert_eq!(two.len(), 32);
+        for length in 0..32 {
+            let place = match length {
+                0..=3 => 0,
+                4..=15 => 4,
+                16..=27 => 16,
+                _ => 28,
+            };
+            load_refuses(&M, &two[..length], order, &MEMORY, refused(5, place));
+        }
     }
 }
 
 #[test]
 fn a_size_word_larger_than_the_table() {
-    for size in [
-        4u32,
-        5,
-        8,
-        0x7FFF_FFFF,
-        0xFFFF_FFF8,
-        0xFFFF_FFFD,
-        0xFFFF_FFFF,
-    ] {
-        let mut bytes = P;
-        bytes[4..8].copy_from_slice(&size.to_be_bytes());
-        // Size 4 takes the pad byte as data. With 5 to 8 the section takes the
-        // end word too, and the end word at 20 is missing.
-        let expected = match size {
-            4 => accepted(0x0080_0000, 1, 1, 4),
-            5 | 8 => refused(5, 20),
-            _ => refused(5, 4),
-        };
-        let after = match size {
-            4 => with(&[(2, 0xA1), (3, 0xA2), (4, 0xA3), (5, 0)]),
-            _ => MEMORY.to_vec(),
-        };
-        load_gives(&M, &bytes, &MEMORY, expected, &after);
+    for order in ByteOrder::BOTH {
+        for size in [
+            4u32,
+            5,
+            8,
+            0x7FFF_FFFF,
+            0xFFFF_FFF8,
+            0xFFFF_FFFD,
+            0xFFFF_FFFF,
+        ] {
+            let mut bytes = *p(order);
+            bytes[4..8].copy_from_slice(&header_word(size, order));
+            // Size 4 takes the pad byte as data. With 5 to 8 the section takes the
+            // end word too, and the end word at 20 is missing.
+            let expected = match size {
+                4 => accepted(0x0080_0000, 1, 1, 4),
+                5 | 8 => refused(5, 20),
+                _ => refused(5, 4),
+            };
+            let after = match size {
+                4 => with(&[(2, 0xA1), (3, 0xA2), (4, 0xA3), (5, 0)]),
+                _ => MEMORY.to_vec(),
+            };
+            load_gives(&M, &bytes, order, &MEMORY, expected, &after);
+        }
+        // In one section 5 comes before 8: the address would run past the top.
+        let mut bytes = *p(order);
+        bytes[4..12].fill(0xFF);
+        load_refuses(&M, &bytes, order, &MEMORY, refused(5, 4));
     }
-    // In one section 5 comes before 8: the address would run past the top.
-    let mut bytes = P;
-    bytes[4..12].fill(0xFF);
-    load_refuses(&M, &bytes, &MEMORY, refused(5, 4));
 }
 
 #[test]
 fn a_size_one_off_at_the_top() {
-    // The largest size that the top allows, and one more.
-    for (address, size, fits) in [
-        (0xFFFF_FFFF, 1, true),
-        (0xFFFF_FFFF, 2, false),
-        (0xFFFF_FFFC, 4, true),
-        (0xFFFF_FFFC, 5, false),
-    ] {
-        let bytes = table(0, &[(address, &vec![0x3C; size])]);
-        let expected = match fits {
-            true => not_open(9, 4, u64::from(address)),
-            false => refused(8, 4),
-        };
-        load_refuses(&M, &bytes, &MEMORY, expected);
+    for order in ByteOrder::BOTH {
+        // The largest size that the top allows, and one more.
+        for (address, size, fits) in [
+            (0xFFFF_FFFF, 1, true),
+            (0xFFFF_FFFF, 2, false),
+            (0xFFFF_FFFC, 4, true),
+            (0xFFFF_FFFC, 5, false),
+        ] {
+            let bytes = table(0, &[(address, &vec![0x3C; size])], order);
+            let expected = match fits {
+                true => not_open(9, 4, u64::from(address)),
+                false => refused(8, 4),
+            };
+            load_refuses(&M, &bytes, order, &MEMORY, expected);
+        }
     }
 }
 
 #[test]
 fn form_comes_before_the_map_rule() {
-    // The first section is not open; behind it the form has a fault.
-    let mut bytes = table(0, &[(0x0070_0000, &[1]), (0x0080_0000, &[2])]);
-    load_refuses(&M, &bytes, &MEMORY, not_open(9, 4, 0x0070_0000));
-    // A pad that is not zero is none.
-    bytes[27] = 1;
-    load_refuses(&M, &bytes, &MEMORY, not_open(9, 4, 0x0070_0000));
-    load_refuses(&M, &bytes[..27], &MEMORY, refused(5, 16));
-    load_refuses(&M, &bytes[..31], &MEMORY, refused(5, 28));
-    let longer = [&bytes[..], &[1]].concat();
-    load_refuses(&M, &longer, &MEMORY, refused(7, 32));
-    let over = table(0, &[(0x0070_0000, &[1]), (0xFFFF_FFFF, &[2, 3])]);
-    load_refuses(&M, &over, &MEMORY, refused(8, 16));
-    // The first fault in table order: 8 in the first, 5 in the second.
-    let both = table(0, &[(0xFFFF_FFFF, &[2, 3]), (0x0080_0000, &[1])]);
-    load_refuses(&M, &both[..27], &MEMORY, refused(8, 4));
+    for order in ByteOrder::BOTH {
+        // The first section is not open; behind it the form has a fault.
+        let mut bytes = table(0, &[(0x0070_0000, &[1]), (0x0080_0000, &[2])], order);
+        load_refuses(&M, &bytes, order, &MEMORY, not_open(9, 4, 0x0070_0000));
+        // A pad that is not zero is none.
+        bytes[27] = 1;
+        load_refuses(&M, &bytes, order, &MEMORY, not_open(9, 4, 0x0070_0000));
+        load_refuses(&M, &bytes[..27], order, &MEMORY, refused(5, 16));
+        load_refuses(&M, &bytes[..31], order, &MEMORY, refused(5, 28));
+        let longer = [&bytes[..], &[1]].concat();
+        load_refuses(&M, &longer, order, &MEMORY, refused(7, 32));
+        let over = table(0, &[(0x0070_0000, &[1]), (0xFFFF_FFFF, &[2, 3])], order);
+        load_refuses(&M, &over, order, &MEMORY, refused(8, 16));
+        // The first fault in table order: 8 in the first, 5 in the second.
+        let both = table(0, &[(0xFFFF_FFFF, &[2, 3]), (0x0080_0000, &[1])], order);
+        load_refuses(&M, &both[..27], order, &MEMORY, refused(8, 4));
+    }
 }
 
 // Pads.
 
 #[test]
 fn each_pad_byte_may_hold_anything() {
-    for size in 1..=4 {
-        let data = &[0xC1, 0xC2, 0xC3, 0xC4][..size];
-        let zero = table(0, &[(0x0080_0000, data)]);
-        let mut after = MEMORY;
-        after[..size].copy_from_slice(data);
-        let answer = accepted(0, 0, 1, size as u64);
-        load_gives(&M, &zero, &MEMORY, answer, &after);
-        // One byte that is not zero, in each of the three, two or one places.
-        for at in 12 + size..16 {
-            for byte in 1..=255 {
-                let mut bytes = zero.clone();
-                bytes[at] = byte;
-                load_gives(&M, &bytes, &MEMORY, answer, &after);
+    for order in ByteOrder::BOTH {
+        for size in 1..=4 {
+            let data = &[0xC1, 0xC2, 0xC3, 0xC4][..size];
+            let zero = table(0, &[(0x0080_0000, data)], order);
+            let mut after = MEMORY;
+            after[..size].copy_from_slice(data);
+            let answer = accepted(0, 0, 1, size as u64);
+            load_gives(&M, &zero, order, &MEMORY, answer, &after);
+            // One byte that is not zero, in each of the three, two or one places.
+            for at in 12 + size..16 {
+                for byte in 1..=255 {
+                    let mut bytes = zero.clone();
+                    bytes[at] = byte;
+                    load_gives(&M, &bytes, order, &MEMORY, answer, &after);
+                }
             }
         }
     }
@@ -755,378 +928,841 @@ fn each_pad_byte_may_hold_anything() {
 
 #[test]
 fn pads_of_ff() {
-    // Sizes 1 to 4 with three, two, one and no pads.
-    let bytes = [
-        0, 0x80, 0, 0, 0, 0, 0, 1, 0, 0x80, 0, 0, 0xA1, 0xFF, 0xFF, 0xFF, 0, 0, 0, 2, 0, 0x80, 0,
-        4, 0xB1, 0xB2, 0xFF, 0xFF, 0, 0, 0, 3, 0, 0x80, 0, 8, 0xC1, 0xC2, 0xC3, 0xFF, 0, 0, 0, 4,
-        0, 0x80, 0, 0x0B, 0xD1, 0xD2, 0xD3, 0xD4, 0, 0, 0, 0,
-    ];
-    let zero = table(
-        0x0080_0000,
-        &[
-            (0x0080_0000, &[0xA1]),
-            (0x0080_0004, &[0xB1, 0xB2]),
-            (0x0080_0008, &[0xC1, 0xC2, 0xC3]),
-            (0x0080_000B, &[0xD1, 0xD2, 0xD3, 0xD4]),
-        ],
-    );
-    let after = [
-        0xA1, 0x61, 0x62, 0x63, 0xB1, 0xB2, 0x66, 0x67, 0xC1, 0xC2, 0xC3, 0xD1, 0xD2, 0xD3, 0xD4,
-        0x6F,
-    ];
-    let answer = accepted(0x0080_0000, 1, 4, 10);
-    load_gives(&M, &bytes, &MEMORY, answer, &after);
-    load_gives(&M, &zero, &MEMORY, answer, &after);
+    for order in ByteOrder::BOTH {
+        // Sizes 1 to 4 with three, two, one and no pads.
+        let bytes = written(
+            [
+                0, 0x80, 0, 0, 0, 0, 0, 1, 0, 0x80, 0, 0, 0xA1, 0xFF, 0xFF, 0xFF, 0, 0, 0, 2, 0,
+                0x80, 0, 4, 0xB1, 0xB2, 0xFF, 0xFF, 0, 0, 0, 3, 0, 0x80, 0, 8, 0xC1, 0xC2, 0xC3,
+                0xFF, 0, 0, 0, 4, 0, 0x80, 0, 0x0B, 0xD1, 0xD2, 0xD3, 0xD4, 0, 0, 0, 0,
+            ],
+            &[0, 4, 8, 16, 20, 28, 32, 40, 44],
+            order,
+        );
+        let zero = table(
+            0x0080_0000,
+            &[
+                (0x0080_0000, &[0xA1]),
+                (0x0080_0004, &[0xB1, 0xB2]),
+                (0x0080_0008, &[0xC1, 0xC2, 0xC3]),
+                (0x0080_000B, &[0xD1, 0xD2, 0xD3, 0xD4]),
+            ],
+            order,
+        );
+        let after = [
+            0xA1, 0x61, 0x62, 0x63, 0xB1, 0xB2, 0x66, 0x67, 0xC1, 0xC2, 0xC3, 0xD1, 0xD2, 0xD3,
+            0xD4, 0x6F,
+        ];
+        let answer = accepted(0x0080_0000, 1, 4, 10);
+        load_gives(&M, &bytes, order, &MEMORY, answer, &after);
+        load_gives(&M, &zero, order, &MEMORY, answer, &after);
+    }
 }
 
 #[test]
 fn pads_cut_after_0_1_and_2_of_3_bytes() {
-    // Size 1 asks for three pads; the data byte stands at 12 and at 24.
-    for pads in [[0, 0, 0], [0xFF, 0xFF, 0xFF], [0, 1, 0]] {
-        let first = padded_table(0x0080_0000, &[(0x0080_0002, &[0xA1], &pads)]);
-        let second = [&P_01[..16], &first[4..]].concat();
-        for there in 0..3 {
-            form_refused(&first[..13 + there], 5, 4);
-            form_refused(&second[..25 + there], 5, 16);
+    for order in ByteOrder::BOTH {
+        // Size 1 asks for three pads; the data byte stands at 12 and at 24.
+        for pads in [[0, 0, 0], [0xFF, 0xFF, 0xFF], [0, 1, 0]] {
+            let first = padded_table(0x0080_0000, &[(0x0080_0002, &[0xA1], &pads)], order);
+            let second = [&p_01(order)[..16], &first[4..]].concat();
+            for there in 0..3 {
+                form_refused(&first[..13 + there], order, 5, 4);
+                form_refused(&second[..25 + there], order, 5, 16);
+            }
+            let after = with(&[(2, 0xA1)]);
+            let answer = accepted(0x0080_0000, 1, 1, 1);
+            load_gives(&M, &first, order, &MEMORY, answer, &after);
         }
-        let after = with(&[(2, 0xA1)]);
-        let answer = accepted(0x0080_0000, 1, 1, 1);
-        load_gives(&M, &first, &MEMORY, answer, &after);
     }
 }
 
 #[test]
 fn pads_cut_after_data_of_every_size() {
-    // Sizes 1 to 8, each cut after none to all but one of its pads.
-    for size in 1..=8 {
-        let data = &[0xC5; 8][..size];
-        let pads = &[0xFF; 3][..(8 - size) % 4];
-        let bytes = padded_table(0, &[(0x0080_0000, data, pads)]);
-        for there in 0..pads.len() {
-            form_refused(&bytes[..12 + size + there], 5, 4);
+    for order in ByteOrder::BOTH {
+        // Sizes 1 to 8, each cut after none to all but one of its pads.
+        for size in 1..=8 {
+            let data = &[0xC5; 8][..size];
+            let pads = &[0xFF; 3][..(8 - size) % 4];
+            let bytes = padded_table(0, &[(0x0080_0000, data, pads)], order);
+            for there in 0..pads.len() {
+                form_refused(&bytes[..12 + size + there], order, 5, 4);
+            }
+            // With all pads only the zero word is missing.
+            let end = 12 + size + pads.len();
+            form_refused(&bytes[..end], order, 5, end as u64);
         }
-        // With all pads only the zero word is missing.
-        let end = 12 + size + pads.len();
-        form_refused(&bytes[..end], 5, end as u64);
     }
 }
 
 #[test]
 fn pads_as_the_last_bytes_of_a_table() {
-    // The zero word should stand at 16; zero pads do not stand for it.
-    for pads in [[0, 0, 0], [0xFF, 0xFF, 0xFF], [1, 0, 0]] {
-        let bytes = padded_table(0x0080_0000, &[(0x0080_0002, &[0xA1], &pads)]);
-        for there in 0..4 {
-            form_refused(&bytes[..16 + there], 5, 16);
+    for order in ByteOrder::BOTH {
+        // The zero word should stand at 16; zero pads do not stand for it.
+        for pads in [[0, 0, 0], [0xFF, 0xFF, 0xFF], [1, 0, 0]] {
+            let bytes = padded_table(0x0080_0000, &[(0x0080_0002, &[0xA1], &pads)], order);
+            for there in 0..4 {
+                form_refused(&bytes[..16 + there], order, 5, 16);
+            }
         }
+        form_refused(&p(order)[..16], order, 5, 16);
+        form_refused(&p_01(order)[..16], order, 5, 16);
     }
-    form_refused(&P[..16], 5, 16);
-    form_refused(&P_01[..16], 5, 16);
 }
 
 #[test]
 fn a_size_that_needs_no_pads() {
-    // Sizes 4 and 8: the word after the data is the next header.
-    let bytes = [
-        0, 0x80, 0, 0, 0, 0, 0, 4, 0, 0x80, 0, 0, 0xC1, 0xC2, 0xC3, 0xC4, 0, 0, 0, 8, 0, 0x80, 0,
-        8, 0xD1, 0xD2, 0xD3, 0xD4, 0xD5, 0xD6, 0xD7, 0xD8, 0, 0, 0, 1, 0, 0x80, 0, 6, 0xE1, 0xFF,
-        0xFF, 0xFF, 0, 0, 0, 0,
-    ];
-    let after = [
-        0xC1, 0xC2, 0xC3, 0xC4, 0x64, 0x65, 0xE1, 0x67, 0xD1, 0xD2, 0xD3, 0xD4, 0xD5, 0xD6, 0xD7,
-        0xD8,
-    ];
-    let answer = accepted(0x0080_0000, 1, 3, 13);
-    load_gives(&M, &bytes, &MEMORY, answer, &after);
-    // Four bytes 0xFF there are no pads but a size word, and its section is cut.
-    form_refused(&[&bytes[..16], &[0xFF; 4], &[0; 4]].concat(), 5, 16);
-    // Four zero bytes there are no pads but the zero word.
-    form_refused(&[&bytes[..16], &[0; 4], &[0; 4]].concat(), 7, 20);
+    for order in ByteOrder::BOTH {
+        // Sizes 4 and 8: the word after the data is the next header.
+        let bytes = written(
+            [
+                0, 0x80, 0, 0, 0, 0, 0, 4, 0, 0x80, 0, 0, 0xC1, 0xC2, 0xC3, 0xC4, 0, 0, 0, 8, 0,
+                0x80, 0, 8, 0xD1, 0xD2, 0xD3, 0xD4, 0xD5, 0xD6, 0xD7, 0xD8, 0, 0, 0, 1, 0, 0x80, 0,
+                6, 0xE1, 0xFF, 0xFF, 0xFF, 0, 0, 0, 0,
+            ],
+            &[0, 4, 8, 16, 20, 32, 36],
+            order,
+        );
+        let after = [
+            0xC1, 0xC2, 0xC3, 0xC4, 0x64, 0x65, 0xE1, 0x67, 0xD1, 0xD2, 0xD3, 0xD4, 0xD5, 0xD6,
+            0xD7, 0xD8,
+        ];
+        let answer = accepted(0x0080_0000, 1, 3, 13);
+        load_gives(&M, &bytes, order, &MEMORY, answer, &after);
+        // Four bytes 0xFF there are no pads but a size word, and its section is cut.
+        form_refused(&[&bytes[..16], &[0xFF; 4], &[0; 4]].concat(), order, 5, 16);
+        // Four zero bytes there are no pads but the zero word.
+        form_refused(&[&bytes[..16], &[0; 4], &[0; 4]].concat(), order, 7, 20);
+    }
 }
 
 #[test]
 fn an_address_over_the_top_or_not_open_whatever_the_pads_hold() {
-    for pad in [0, 1, 9, 0xFF] {
-        let over = padded_table(0, &[(0xFFFF_FFFE, &[1, 2, 3], &[pad])]);
-        form_refused(&over, 8, 4);
-        let top = padded_table(0, &[(0xFFFF_FFFD, &[1, 2, 3], &[pad])]);
-        load_refuses(&M, &top, &MEMORY, not_open(9, 4, 0xFFFF_FFFD));
-        let last = padded_table(0, &[(0x0080_000F, &[1, 2], &[pad, pad])]);
-        load_refuses(&M, &last, &MEMORY, not_open(9, 4, 0x0080_0010));
-        // A cut section is 5 before it is 8.
-        form_refused(&over[..15], 5, 4);
+    for order in ByteOrder::BOTH {
+        for pad in [0, 1, 9, 0xFF] {
+            let over = padded_table(0, &[(0xFFFF_FFFE, &[1, 2, 3], &[pad])], order);
+            form_refused(&over, order, 8, 4);
+            let top = padded_table(0, &[(0xFFFF_FFFD, &[1, 2, 3], &[pad])], order);
+            load_refuses(&M, &top, order, &MEMORY, not_open(9, 4, 0xFFFF_FFFD));
+            let last = padded_table(0, &[(0x0080_000F, &[1, 2], &[pad, pad])], order);
+            load_refuses(&M, &last, order, &MEMORY, not_open(9, 4, 0x0080_0010));
+            // A cut section is 5 before it is 8.
+            form_refused(&over[..15], order, 5, 4);
+        }
     }
 }
 
 #[test]
 fn a_fault_behind_pads_that_are_not_zero() {
-    let first: (u32, &[u8], &[u8]) = (0x0080_0002, &[0xA1], &[0xFF, 0, 1]);
-    let bytes = padded_table(0, &[first, (0x0080_0004, &[1, 2], &[3, 4])]);
-    assert_eq!(bytes.len(), 32);
-    let after = with(&[(2, 0xA1), (4, 1), (5, 2)]);
-    load_gives(&M, &bytes, &MEMORY, accepted(0, 0, 2, 3), &after);
-    // 5 in the second section and in the zero word, 7 behind it.
-    for length in 16..28 {
-        form_refused(&bytes[..length], 5, 16);
+    for order in ByteOrder::BOTH {
+        let first: (u32, &[u8], &[u8]) = (0x0080_0002, &[0xA1], &[0xFF, 0, 1]);
+        let bytes = padded_table(0, &[first, (0x0080_0004, &[1, 2], &[3, 4])], order);
+        assert_eq!(bytes.len(), 32);
+        let after = with(&[(2, 0xA1), (4, 1), (5, 2)]);
+        load_gives(&M, &bytes, order, &MEMORY, accepted(0, 0, 2, 3), &after);
+        // 5 in the second section and in the zero word, 7 behind it.
+        for length in 16..28 {
+            form_refused(&bytes[..length], order, 5, 16);
+        }
+        for length in 28..32 {
+            form_refused(&bytes[..length], order, 5, 28);
+        }
+        form_refused(&[&bytes[..], &[0]].concat(), order, 7, 32);
+        // 8 and 9 in the second section.
+        let over = padded_table(0, &[first, (0xFFFF_FFFF, &[1, 2], &[3, 4])], order);
+        form_refused(&over, order, 8, 16);
+        let closed = padded_table(0, &[first, (0x0080_000F, &[1, 2], &[3, 4])], order);
+        load_refuses(&M, &closed, order, &MEMORY, not_open(9, 16, 0x0080_0010));
+        // The first section is not open, and the second is past the top.
+        let both = padded_table(
+            0,
+            &[
+                (0x0070_0000, &[1], &[0xFF; 3]),
+                (0xFFFF_FFFF, &[1, 2], &[3, 4]),
+            ],
+            order,
+        );
+        load_refuses(&M, &both, order, &MEMORY, refused(8, 16));
     }
-    for length in 28..32 {
-        form_refused(&bytes[..length], 5, 28);
-    }
-    form_refused(&[&bytes[..], &[0]].concat(), 7, 32);
-    // 8 and 9 in the second section.
-    let over = padded_table(0, &[first, (0xFFFF_FFFF, &[1, 2], &[3, 4])]);
-    form_refused(&over, 8, 16);
-    let closed = padded_table(0, &[first, (0x0080_000F, &[1, 2], &[3, 4])]);
-    load_refuses(&M, &closed, &MEMORY, not_open(9, 16, 0x0080_0010));
-    // The first section is not open, and the second is past the top.
-    let both = padded_table(
-        0,
-        &[
-            (0x0070_0000, &[1], &[0xFF; 3]),
-            (0xFFFF_FFFF, &[1, 2], &[3, 4]),
-        ],
-    );
-    load_refuses(&M, &both, &MEMORY, refused(8, 16));
 }
 
 #[test]
 fn two_sections_with_different_pads_swapped() {
-    // The sections share no address: the same answer and the same memory.
-    let bytes = [
-        0, 0x80, 0, 0, 0, 0, 0, 3, 0, 0x80, 0, 2, 0xA1, 0xA2, 0xA3, 1, 0, 0, 0, 1, 0, 0x80, 0, 8,
-        0xB7, 0xFF, 2, 3, 0, 0, 0, 0,
-    ];
-    let swapped = [
-        0, 0x80, 0, 0, 0, 0, 0, 1, 0, 0x80, 0, 8, 0xB7, 0xFF, 2, 3, 0, 0, 0, 3, 0, 0x80, 0, 2,
-        0xA1, 0xA2, 0xA3, 1, 0, 0, 0, 0,
-    ];
-    let after = with(&[(2, 0xA1), (3, 0xA2), (4, 0xA3), (8, 0xB7)]);
-    let answer = accepted(0x0080_0000, 1, 2, 4);
-    load_gives(&M, &bytes, &MEMORY, answer, &after);
-    load_gives(&M, &swapped, &MEMORY, answer, &after);
-    // Each is the join of two tables with one section, pads as they stand.
-    let other = [
-        0, 0x80, 0, 0, 0, 0, 0, 1, 0, 0x80, 0, 8, 0xB7, 0xFF, 2, 3, 0, 0, 0, 0,
-    ];
-    join_gives(&P_01, &other, &[0xEE; 32], joined(32, 2), &bytes);
-    join_gives(&other, &P_01, &[0xEE; 32], joined(32, 2), &swapped);
-    // They share 0x00800004 and agree there.
-    let shared: [(u32, &[u8], &[u8]); 2] = [
-        (0x0080_0002, &[0xA1, 0xA2, 0xA3], &[0xFF]),
-        (0x0080_0004, &[0xA3], &[7, 8, 9]),
-    ];
-    let after = with(&[(2, 0xA1), (3, 0xA2), (4, 0xA3)]);
-    let answer = accepted(0, 0, 2, 4);
-    load_gives(&M, &padded_table(0, &shared), &MEMORY, answer, &after);
-    let exchanged = [shared[1], shared[0]];
-    load_gives(&M, &padded_table(0, &exchanged), &MEMORY, answer, &after);
+    for order in ByteOrder::BOTH {
+        // The sections share no address: the same answer and the same memory.
+        let bytes = written(
+            [
+                0, 0x80, 0, 0, 0, 0, 0, 3, 0, 0x80, 0, 2, 0xA1, 0xA2, 0xA3, 1, 0, 0, 0, 1, 0, 0x80,
+                0, 8, 0xB7, 0xFF, 2, 3, 0, 0, 0, 0,
+            ],
+            &[0, 4, 8, 16, 20],
+            order,
+        );
+        let swapped = written(
+            [
+                0, 0x80, 0, 0, 0, 0, 0, 1, 0, 0x80, 0, 8, 0xB7, 0xFF, 2, 3, 0, 0, 0, 3, 0, 0x80, 0,
+                2, 0xA1, 0xA2, 0xA3, 1, 0, 0, 0, 0,
+            ],
+            &[0, 4, 8, 16, 20],
+            order,
+        );
+        let after = with(&[(2, 0xA1), (3, 0xA2), (4, 0xA3), (8, 0xB7)]);
+        let answer = accepted(0x0080_0000, 1, 2, 4);
+        load_gives(&M, &bytes, order, &MEMORY, answer, &after);
+        load_gives(&M, &swapped, order, &MEMORY, answer, &after);
+        // Each is the join of two tables with one section, pads as they stand.
+        let other = written(
+            [
+                0, 0x80, 0, 0, 0, 0, 0, 1, 0, 0x80, 0, 8, 0xB7, 0xFF, 2, 3, 0, 0, 0, 0,
+            ],
+            &[0, 4, 8],
+            order,
+        );
+        join_gives(
+            p_01(order),
+            &other,
+            order,
+            &[0xEE; 32],
+            joined(32, 2),
+            &bytes,
+        );
+        join_gives(
+            &other,
+            p_01(order),
+            order,
+            &[0xEE; 32],
+            joined(32, 2),
+            &swapped,
+        );
+        // They share 0x00800004 and agree there.
+        let shared: [(u32, &[u8], &[u8]); 2] = [
+            (0x0080_0002, &[0xA1, 0xA2, 0xA3], &[0xFF]),
+            (0x0080_0004, &[0xA3], &[7, 8, 9]),
+        ];
+        let after = with(&[(2, 0xA1), (3, 0xA2), (4, 0xA3)]);
+        let answer = accepted(0, 0, 2, 4);
+        load_gives(
+            &M,
+            &padded_table(0, &shared, order),
+            order,
+            &MEMORY,
+            answer,
+            &after,
+        );
+        let exchanged = [shared[1], shared[0]];
+        load_gives(
+            &M,
+            &padded_table(0, &exchanged, order),
+            order,
+            &MEMORY,
+            answer,
+            &after,
+        );
+    }
 }
 
 #[test]
 fn the_map_comes_before_memory_and_table() {
-    let wrong = map(&[(1, 0x0080_0000, 0)]);
-    load_refuses(&wrong, &[], &[], refused(2, 0));
-    load_refuses(&wrong, &P, &MEMORY, refused(2, 0));
-    load_refuses(&M[..11], &[], &[], refused(1, 0));
+    for order in ByteOrder::BOTH {
+        let wrong = map(&[(1, 0x0080_0000, 0)]);
+        load_refuses(&wrong, &[], order, &[], refused(2, 0));
+        load_refuses(&wrong, p(order), order, &MEMORY, refused(2, 0));
+        load_refuses(&M[..11], &[], order, &[], refused(1, 0));
+    }
 }
 
 #[test]
 fn memory_one_byte_short_and_one_long() {
-    load_refuses(&M, &P, &MEMORY[..15], refused(3, 0));
-    let long = [&MEMORY[..], &[0x70]].concat();
-    load_refuses(&M, &P, &long, refused(3, 0));
+    for order in ByteOrder::BOTH {
+        load_refuses(&M, p(order), order, &MEMORY[..15], refused(3, 0));
+        let long = [&MEMORY[..], &[0x70]].concat();
+        load_refuses(&M, p(order), order, &long, refused(3, 0));
+    }
 }
 
 #[test]
 fn a_section_across_two_touching_records() {
-    // The higher record comes first in the map, so its bytes come first in memory.
-    let falling = map(&[(1, 0x0080_0008, 8), (1, 0x0080_0000, 8)]);
-    let across = table(0x0080_0007, &[(0x0080_0006, &[0xD0, 0xD1, 0xD2, 0xD3])]);
-    let after = with(&[(14, 0xD0), (15, 0xD1), (0, 0xD2), (1, 0xD3)]);
-    let answer = accepted(0x0080_0007, 1, 1, 4);
-    load_gives(&falling, &across, &MEMORY, answer, &after);
-    // Over all of both.
-    let data: Vec<u8> = (0x80..0x90).collect();
-    let whole = table(0, &[(0x0080_0000, &data)]);
-    let after = [&data[8..], &data[..8]].concat();
-    load_gives(&falling, &whole, &MEMORY, accepted(0, 0, 1, 16), &after);
-    // A reserved record between the permitted ones takes no place in memory.
-    let between = map(&[(1, 0x0080_0008, 8), (2, 0, 9), (1, 0x0080_0000, 8)]);
-    load_gives(&between, &whole, &MEMORY, accepted(0, 0, 1, 16), &after);
+    for order in ByteOrder::BOTH {
+        // The higher record comes first in the map, so its bytes come first in memory.
+        let falling = map(&[(1, 0x0080_0008, 8), (1, 0x0080_0000, 8)]);
+        let across = table(
+            0x0080_0007,
+            &[(0x0080_0006, &[0xD0, 0xD1, 0xD2, 0xD3])],
+            order,
+        );
+        let after = with(&[(14, 0xD0), (15, 0xD1), (0, 0xD2), (1, 0xD3)]);
+        let answer = accepted(0x0080_0007, 1, 1, 4);
+        load_gives(&falling, &across, order, &MEMORY, answer, &after);
+        // Over all of both.
+        let data: Vec<u8> = (0x80..0x90).collect();
+        let whole = table(0, &[(0x0080_0000, &data)], order);
+        let after = [&data[8..], &data[..8]].concat();
+        load_gives(
+            &falling,
+            &whole,
+            order,
+            &MEMORY,
+            accepted(0, 0, 1, 16),
+            &after,
+        );
+        // A reserved record between the permitted ones takes no place in memory.
+        let between = map(&[(1, 0x0080_0008, 8), (2, 0, 9), (1, 0x0080_0000, 8)]);
+        load_gives(
+            &between,
+            &whole,
+            order,
+            &MEMORY,
+            accepted(0, 0, 1, 16),
+            &after,
+        );
+    }
 }
 
 #[test]
 fn the_later_section_wins() {
-    let shared = table(
-        0,
-        &[
-            (0x0080_0004, &[1, 1, 1, 1]),
-            (0x0080_0002, &[2, 2, 2]),
-            (0x0080_0006, &[3]),
-            (0x0080_0004, &[4]),
-        ],
-    );
-    let after = with(&[(2, 2), (3, 2), (4, 4), (5, 1), (6, 3), (7, 1)]);
-    load_gives(&M, &shared, &MEMORY, accepted(0, 0, 4, 9), &after);
+    for order in ByteOrder::BOTH {
+        let shared = table(
+            0,
+            &[
+                (0x0080_0004, &[1, 1, 1, 1]),
+                (0x0080_0002, &[2, 2, 2]),
+                (0x0080_0006, &[3]),
+                (0x0080_0004, &[4]),
+            ],
+            order,
+        );
+        let after = with(&[(2, 2), (3, 2), (4, 4), (5, 1), (6, 3), (7, 1)]);
+        load_gives(&M, &shared, order, &MEMORY, accepted(0, 0, 4, 9), &after);
+    }
 }
 
 #[test]
 fn boot_tables_at_and_over_the_limit() {
-    let data = vec![0xC4; TABLE_LIMIT - 16];
-    let mut large = table(0, &[(0x2000_0000, &data)]);
-    assert_eq!(large.len(), TABLE_LIMIT);
-    let wide = map(&[(1, 0x2000_0000, TABLE_LIMIT as u32 - 16)]);
-    for (name, judge, load) in LOADS {
-        let answer = accepted(0, 0, 1, TABLE_LIMIT as u64 - 16);
-        assert_eq!(judge(&wide, &large), answer, "{name}");
-        let mut memory = vec![0x11; TABLE_LIMIT - 16];
-        assert_eq!(load(&wide, &large, &mut memory), answer, "{name}");
-        assert!(memory == data, "{name}");
+    for order in ByteOrder::BOTH {
+        let data = vec![0xC4; TABLE_LIMIT - 16];
+        let mut large = table(0, &[(0x2000_0000, &data)], order);
+        assert_eq!(large.len(), TABLE_LIMIT);
+        let wide = map(&[(1, 0x2000_0000, TABLE_LIMIT as u32 - 16)]);
+        for (name, judge, load) in LOADS {
+            let answer = accepted(0, 0, 1, TABLE_LIMIT as u64 - 16);
+            assert_eq!(judge(&wide, &large, order), answer, "{name}");
+            let mut memory = vec![0x11; TABLE_LIMIT - 16];
+            assert_eq!(load(&wide, &large, order, &mut memory), answer, "{name}");
+            assert!(memory == data, "{name}");
+        }
+        large.push(0);
+        load_refuses(&M, &large, order, &MEMORY, refused(4, 0));
+        // As many sections of one byte as the limit takes.
+        let count = (TABLE_LIMIT - 8) / 12;
+        let mut many = vec![0; 4];
+        for i in 0..count {
+            let address = 0x0080_0000 + (i % 16) as u32;
+            let pads = [0xFF, (i % 7) as u8, 1];
+            many.extend(padded_section(address, &[(i % 251) as u8], &pads, order));
+        }
+        many.extend([0; 4]);
+        let mut after = [0; 16];
+        for i in count - 16..count {
+            after[i % 16] = (i % 251) as u8;
+        }
+        let answer = accepted(0, 0, count as u64, count as u64);
+        load_gives(&M, &many, order, &MEMORY, answer, &after);
     }
-    large.push(0);
-    load_refuses(&M, &large, &MEMORY, refused(4, 0));
-    // As many sections of one byte as the limit takes.
-    let count = (TABLE_LIMIT - 8) / 12;
-    let mut many = vec![0; 4];
-    for i in 0..count {
-        let address = 0x0080_0000 + (i % 16) as u32;
-        let pads = [0xFF, (i % 7) as u8, 1];
-        many.extend(padded_section(address, &[(i % 251) as u8], &pads));
-    }
-    many.extend([0; 4]);
-    let mut after = [0; 16];
-    for i in count - 16..count {
-        after[i % 16] = (i % 251) as u8;
-    }
-    let answer = accepted(0, 0, count as u64, count as u64);
-    load_gives(&M, &many, &MEMORY, answer, &after);
 }
 
 // The join.
 
 #[test]
 fn join_outputs_exact_short_empty_and_longer() {
-    let result = [&Q[..4], &P[4..16], &Q[4..20]].concat();
-    join_gives(&P, &Q, &[0xEE; 32], joined(32, 2), &result);
-    for length in 0..32 {
-        let output = vec![0xEE; length];
-        join_gives(&P, &Q, &output, join_refused(11, 0, 0), &output);
-    }
-    for more in [1, 2, 3, 4, 100] {
-        let after = [&result[..], &vec![0xEE; more]].concat();
-        join_gives(&P, &Q, &vec![0xEE; 32 + more], joined(32, 2), &after);
+    for order in ByteOrder::BOTH {
+        let result = [&q(order)[..4], &p(order)[4..16], &q(order)[4..20]].concat();
+        join_gives(
+            p(order),
+            q(order),
+            order,
+            &[0xEE; 32],
+            joined(32, 2),
+            &result,
+        );
+        for length in 0..32 {
+            let output = vec![0xEE; length];
+            join_refuses(p(order), q(order), order, &output, join_refused(11, 0, 0));
+        }
+        for more in [1, 2, 3, 4, 100] {
+            let after = [&result[..], &vec![0xEE; more]].concat();
+            join_gives(
+                p(order),
+                q(order),
+                order,
+                &vec![0xEE; 32 + more],
+                joined(32, 2),
+                &after,
+            );
+        }
     }
 }
 
 #[test]
 fn joins_with_a_table_without_sections() {
-    let none = table(0x0090_0000, &[]);
-    join_gives(&none, &P, &[0xEE; 20], joined(20, 1), &P);
-    let mut entry_changed = P;
-    entry_changed[..4].copy_from_slice(&[0, 0x90, 0, 0]);
-    join_gives(&P, &none, &[0xEE; 20], joined(20, 1), &entry_changed);
-    join_gives(&table(1, &[]), &none, &[0xEE; 8], joined(8, 0), &none);
-    // The pad byte 01 stays.
-    join_gives(&none, &P_01, &[0xEE; 20], joined(20, 1), &P_01);
-    entry_changed[15] = 1;
-    join_gives(&P_01, &none, &[0xEE; 20], joined(20, 1), &entry_changed);
+    for order in ByteOrder::BOTH {
+        let none = table(0x0090_0000, &[], order);
+        join_gives(&none, p(order), order, &[0xEE; 20], joined(20, 1), p(order));
+        let mut entry_changed = *p(order);
+        entry_changed[..4].copy_from_slice(&header_word(0x0090_0000, order));
+        join_gives(
+            p(order),
+            &none,
+            order,
+            &[0xEE; 20],
+            joined(20, 1),
+            &entry_changed,
+        );
+        join_gives(
+            &table(1, &[], order),
+            &none,
+            order,
+            &[0xEE; 8],
+            joined(8, 0),
+            &none,
+        );
+        // The pad byte 01 stays.
+        join_gives(
+            &none,
+            p_01(order),
+            order,
+            &[0xEE; 20],
+            joined(20, 1),
+            p_01(order),
+        );
+        entry_changed[15] = 1;
+        join_gives(
+            p_01(order),
+            &none,
+            order,
+            &[0xEE; 20],
+            joined(20, 1),
+            &entry_changed,
+        );
+    }
 }
 
 #[test]
 fn joins_keep_pads_as_they_stand() {
-    let first = [
-        0, 0, 0, 1, 0, 0, 0, 1, 0, 0, 0, 0x10, 0xA1, 0xF1, 0xF2, 0xF3, 0, 0, 0, 2, 0, 0, 0, 0x20,
-        0xA2, 0xA3, 0xF4, 0, 0, 0, 0, 0,
-    ];
-    let second = [
-        0, 0, 0, 2, 0, 0, 0, 3, 0, 0, 0, 0x30, 0xB1, 0xB2, 0xB3, 0xFF, 0, 0, 0, 4, 0, 0, 0, 0x40,
-        0xB4, 0xB5, 0xB6, 0xB7, 0, 0, 0, 1, 0, 0, 0, 0x50, 0xB8, 0, 0, 1, 0, 0, 0, 0,
-    ];
-    let result = [
-        0, 0, 0, 2, 0, 0, 0, 1, 0, 0, 0, 0x10, 0xA1, 0xF1, 0xF2, 0xF3, 0, 0, 0, 2, 0, 0, 0, 0x20,
-        0xA2, 0xA3, 0xF4, 0, 0, 0, 0, 3, 0, 0, 0, 0x30, 0xB1, 0xB2, 0xB3, 0xFF, 0, 0, 0, 4, 0, 0,
-        0, 0x40, 0xB4, 0xB5, 0xB6, 0xB7, 0, 0, 0, 1, 0, 0, 0, 0x50, 0xB8, 0, 0, 1, 0, 0, 0, 0,
-    ];
-    join_gives(&first, &second, &[0xEE; 68], joined(68, 5), &result);
-    let result = [
-        0, 0, 0, 1, 0, 0, 0, 3, 0, 0, 0, 0x30, 0xB1, 0xB2, 0xB3, 0xFF, 0, 0, 0, 4, 0, 0, 0, 0x40,
-        0xB4, 0xB5, 0xB6, 0xB7, 0, 0, 0, 1, 0, 0, 0, 0x50, 0xB8, 0, 0, 1, 0, 0, 0, 1, 0, 0, 0,
-        0x10, 0xA1, 0xF1, 0xF2, 0xF3, 0, 0, 0, 2, 0, 0, 0, 0x20, 0xA2, 0xA3, 0xF4, 0, 0, 0, 0, 0,
-    ];
-    join_gives(&second, &first, &[0xEE; 68], joined(68, 5), &result);
-    // Three pads: each of them alone not zero, and all 0xFF.
-    for [x, y, z] in [[1, 0, 0], [0, 1, 0], [0, 0, 1], [0xFF; 3]] {
-        let padded = [
-            0, 0, 0, 3, 0, 0, 0, 1, 0, 0, 0, 0x60, 0xC1, x, y, z, 0, 0, 0, 0,
-        ];
-        let before_q = [
-            0, 0x80, 0, 4, 0, 0, 0, 1, 0, 0, 0, 0x60, 0xC1, x, y, z, 0, 0, 0, 1, 0, 0x80, 0, 4,
-            0xB7, 0, 0, 0, 0, 0, 0, 0,
-        ];
-        let after_q = [
-            0, 0, 0, 3, 0, 0, 0, 1, 0, 0x80, 0, 4, 0xB7, 0, 0, 0, 0, 0, 0, 1, 0, 0, 0, 0x60, 0xC1,
-            x, y, z, 0, 0, 0, 0,
-        ];
-        join_gives(&padded, &Q, &[0xEE; 32], joined(32, 2), &before_q);
-        join_gives(&Q, &padded, &[0xEE; 32], joined(32, 2), &after_q);
+    for order in ByteOrder::BOTH {
+        let first = written(
+            [
+                0, 0, 0, 1, 0, 0, 0, 1, 0, 0, 0, 0x10, 0xA1, 0xF1, 0xF2, 0xF3, 0, 0, 0, 2, 0, 0, 0,
+                0x20, 0xA2, 0xA3, 0xF4, 0, 0, 0, 0, 0,
+            ],
+            &[0, 4, 8, 16, 20],
+            order,
+        );
+        let second = written(
+            [
+                0, 0, 0, 2, 0, 0, 0, 3, 0, 0, 0, 0x30, 0xB1, 0xB2, 0xB3, 0xFF, 0, 0, 0, 4, 0, 0, 0,
+                0x40, 0xB4, 0xB5, 0xB6, 0xB7, 0, 0, 0, 1, 0, 0, 0, 0x50, 0xB8, 0, 0, 1, 0, 0, 0, 0,
+            ],
+            &[0, 4, 8, 16, 20, 28, 32],
+            order,
+        );
+        let result = written(
+            [
+                0, 0, 0, 2, 0, 0, 0, 1, 0, 0, 0, 0x10, 0xA1, 0xF1, 0xF2, 0xF3, 0, 0, 0, 2, 0, 0, 0,
+                0x20, 0xA2, 0xA3, 0xF4, 0, 0, 0, 0, 3, 0, 0, 0, 0x30, 0xB1, 0xB2, 0xB3, 0xFF, 0, 0,
+                0, 4, 0, 0, 0, 0x40, 0xB4, 0xB5, 0xB6, 0xB7, 0, 0, 0, 1, 0, 0, 0, 0x50, 0xB8, 0, 0,
+                1, 0, 0, 0, 0,
+            ],
+            &[0, 4, 8, 16, 20, 28, 32, 40, 44, 52, 56],
+            order,
+        );
+        join_gives(&first, &second, order, &[0xEE; 68], joined(68, 5), &result);
+        let result = written(
+            [
+                0, 0, 0, 1, 0, 0, 0, 3, 0, 0, 0, 0x30, 0xB1, 0xB2, 0xB3, 0xFF, 0, 0, 0, 4, 0, 0, 0,
+                0x40, 0xB4, 0xB5, 0xB6, 0xB7, 0, 0, 0, 1, 0, 0, 0, 0x50, 0xB8, 0, 0, 1, 0, 0, 0, 1,
+                0, 0, 0, 0x10, 0xA1, 0xF1, 0xF2, 0xF3, 0, 0, 0, 2, 0, 0, 0, 0x20, 0xA2, 0xA3, 0xF4,
+                0, 0, 0, 0, 0,
+            ],
+            &[0, 4, 8, 16, 20, 28, 32, 40, 44, 52, 56],
+            order,
+        );
+        join_gives(&second, &first, order, &[0xEE; 68], joined(68, 5), &result);
+        // Three pads: each of them alone not zero, and all 0xFF.
+        for [x, y, z] in [[1, 0, 0], [0, 1, 0], [0, 0, 1], [0xFF; 3]] {
+            let padded = written(
+                [
+                    0, 0, 0, 3, 0, 0, 0, 1, 0, 0, 0, 0x60, 0xC1, x, y, z, 0, 0, 0, 0,
+                ],
+                &[0, 4, 8],
+                order,
+            );
+            let before_q = written(
+                [
+                    0, 0x80, 0, 4, 0, 0, 0, 1, 0, 0, 0, 0x60, 0xC1, x, y, z, 0, 0, 0, 1, 0, 0x80,
+                    0, 4, 0xB7, 0, 0, 0, 0, 0, 0, 0,
+                ],
+                &[0, 4, 8, 16, 20],
+                order,
+            );
+            let after_q = written(
+                [
+                    0, 0, 0, 3, 0, 0, 0, 1, 0, 0x80, 0, 4, 0xB7, 0, 0, 0, 0, 0, 0, 1, 0, 0, 0,
+                    0x60, 0xC1, x, y, z, 0, 0, 0, 0,
+                ],
+                &[0, 4, 8, 16, 20],
+                order,
+            );
+            join_gives(
+                &padded,
+                q(order),
+                order,
+                &[0xEE; 32],
+                joined(32, 2),
+                &before_q,
+            );
+            join_gives(
+                q(order),
+                &padded,
+                order,
+                &[0xEE; 32],
+                joined(32, 2),
+                &after_q,
+            );
+        }
     }
 }
 
 #[test]
 fn joins_of_damaged_tables() {
-    let over = padded_table(0, &[(0xFFFF_FFFF, &[1, 2], &[7, 0xFF])]);
-    let longer = [&P_01[..], &[0, 0]].concat();
-    let faults: [(&[u8], u64, u64); 6] = [
-        (&[], 5, 0),
-        (&P[..19], 5, 16),
-        (&P[..7], 5, 4),
-        (&P[..15], 5, 4),
-        (&longer, 7, 20),
-        (&over, 8, 4),
-    ];
-    let output = [0xEE; 64];
-    for (one, number, place) in faults {
-        join_gives(one, &Q, &output, join_refused(number, place, 1), &output);
-        join_gives(&Q, one, &output, join_refused(number, place, 2), &output);
-        // The tables' faults come before 11.
-        join_gives(&Q, one, &[], join_refused(number, place, 2), &[]);
-        // Both damaged: the first's fault is answered.
-        for (two, _, _) in faults {
-            join_gives(one, two, &output, join_refused(number, place, 1), &output);
+    for order in ByteOrder::BOTH {
+        let over = padded_table(0, &[(0xFFFF_FFFF, &[1, 2], &[7, 0xFF])], order);
+        let longer = [&p_01(order)[..], &[0, 0]].concat();
+        let faults: [(&[u8], u64, u64); 6] = [
+            (&[], 5, 0),
+            (&p(order)[..19], 5, 16),
+            (&p(order)[..7], 5, 4),
+            (&p(order)[..15], 5, 4),
+            (&longer, 7, 20),
+            (&over, 8, 4),
+        ];
+        let output = [0xEE; 64];
+        for (one, number, place) in faults {
+            join_refuses(
+                one,
+                q(order),
+                order,
+                &output,
+                join_refused(number, place, 1),
+            );
+            join_refuses(
+                q(order),
+                one,
+                order,
+                &output,
+                join_refused(number, place, 2),
+            );
+            // The tables' faults come before 11.
+            join_refuses(q(order), one, order, &[], join_refused(number, place, 2));
+            // Both damaged: the first's fault is answered.
+            for (two, _, _) in faults {
+                join_refuses(one, two, order, &output, join_refused(number, place, 1));
+            }
         }
     }
 }
 
 #[test]
 fn joins_at_the_limit_and_over() {
-    let data = vec![0xC4; TABLE_LIMIT - 16 - 12];
-    let first = table(1, &[(0x2000_0000, &data)]);
-    assert_eq!(first.len(), TABLE_LIMIT - 12);
-    let one = table(2, &[(0x3000_0000, &[0xD1])]);
-    let two = table(3, &[(0x3000_0000, &[0xD1]), (0x3000_0001, &[0xD2])]);
-    // At the limit, both ways.
-    let result = table(2, &[(0x2000_0000, &data), (0x3000_0000, &[0xD1])]);
-    assert_eq!(result.len(), TABLE_LIMIT);
-    let answer = joined(TABLE_LIMIT as u64, 2);
-    let output = vec![0xEE; TABLE_LIMIT];
-    join_gives(&first, &one, &output, answer, &result);
-    let result = table(1, &[(0x3000_0000, &[0xD1]), (0x2000_0000, &data)]);
-    join_gives(&one, &first, &output, answer, &result);
-    // One byte too short for it.
-    let short = &output[1..];
-    join_gives(&first, &one, short, join_refused(11, 0, 0), short);
-    // One section over, with an output that would hold it, and with none: 10
-    // comes before 11.
-    let output = vec![0xEE; TABLE_LIMIT + 12];
-    join_gives(&first, &two, &output, join_refused(10, 0, 0), &output);
-    join_gives(&two, &first, &output, join_refused(10, 0, 0), &output);
-    join_gives(&first, &two, &[], join_refused(10, 0, 0), &[]);
-    // Over the limit alone: 4, in the table that is.
-    let mut large = table(1, &[(0x2000_0000, &vec![0; TABLE_LIMIT - 16])]);
-    large.push(0);
-    join_gives(&large, &one, &[], join_refused(4, 0, 1), &[]);
-    join_gives(&one, &large, &[], join_refused(4, 0, 2), &[]);
-    join_gives(&P[..3], &large, &[], join_refused(5, 0, 1), &[]);
+    for order in ByteOrder::BOTH {
+        let data = vec![0xC4; TABLE_LIMIT - 16 - 12];
+        let first = table(1, &[(0x2000_0000, &data)], order);
+        assert_eq!(first.len(), TABLE_LIMIT - 12);
+        let one = table(2, &[(0x3000_0000, &[0xD1])], order);
+        let two = table(3, &[(0x3000_0000, &[0xD1]), (0x3000_0001, &[0xD2])], order);
+        // At the limit, both ways.
+        let result = table(2, &[(0x2000_0000, &data), (0x3000_0000, &[0xD1])], order);
+        assert_eq!(result.len(), TABLE_LIMIT);
+        let answer = joined(TABLE_LIMIT as u64, 2);
+        let output = vec![0xEE; TABLE_LIMIT];
+        join_gives(&first, &one, order, &output, answer, &result);
+        let result = table(1, &[(0x3000_0000, &[0xD1]), (0x2000_0000, &data)], order);
+        join_gives(&one, &first, order, &output, answer, &result);
+        // One byte too short for it.
+        let short = &output[1..];
+        join_refuses(&first, &one, order, short, join_refused(11, 0, 0));
+        // One section over, with an output that would hold it, and with none: 10
+        // comes before 11.
+        let output = vec![0xEE; TABLE_LIMIT + 12];
+        join_refuses(&first, &two, order, &output, join_refused(10, 0, 0));
+        join_refuses(&two, &first, order, &output, join_refused(10, 0, 0));
+        join_refuses(&first, &two, order, &[], join_refused(10, 0, 0));
+        // Over the limit alone: 4, in the table that is.
+        let mut large = table(1, &[(0x2000_0000, &vec![0; TABLE_LIMIT - 16])], order);
+        large.push(0);
+        join_refuses(&large, &one, order, &[], join_refused(4, 0, 1));
+        join_refuses(&one, &large, order, &[], join_refused(4, 0, 2));
+        join_refuses(&p(order)[..3], &large, order, &[], join_refused(5, 0, 1));
+    }
+}
+
+// Byte orders.
+
+#[test]
+fn p_and_q_low_first() {
+    let after = with(&[(2, 0xA1), (3, 0xA2), (4, 0xA3)]);
+    let answer = accepted(0x0080_0000, 1, 1, 3);
+    load_gives(&M, &P_LOW, LowFirst, &MEMORY, answer, &after);
+    let after = with(&[(4, 0xB7)]);
+    let answer = accepted(0x0080_0004, 1, 1, 1);
+    load_gives(&M, &Q_LOW, LowFirst, &MEMORY, answer, &after);
+}
+
+#[test]
+fn p_and_q_joined_low_first() {
+    let result = [
+        4, 0, 0x80, 0, 3, 0, 0, 0, 2, 0, 0x80, 0, 0xA1, 0xA2, 0xA3, 0, 1, 0, 0, 0, 4, 0, 0x80, 0,
+        0xB7, 0, 0, 0, 0, 0, 0, 0,
+    ];
+    join_gives(
+        &P_LOW,
+        &Q_LOW,
+        LowFirst,
+        &[0xEE; 32],
+        joined(32, 2),
+        &result,
+    );
+    let after = with(&[(2, 0xA1), (3, 0xA2), (4, 0xB7)]);
+    let answer = accepted(0x0080_0004, 1, 2, 4);
+    load_gives(&M, &result, LowFirst, &MEMORY, answer, &after);
+    let result = [
+        0, 0, 0x80, 0, 1, 0, 0, 0, 4, 0, 0x80, 0, 0xB7, 0, 0, 0, 3, 0, 0, 0, 2, 0, 0x80, 0, 0xA1,
+        0xA2, 0xA3, 0, 0, 0, 0, 0,
+    ];
+    join_gives(
+        &Q_LOW,
+        &P_LOW,
+        LowFirst,
+        &[0xEE; 32],
+        joined(32, 2),
+        &result,
+    );
+    let after = with(&[(2, 0xA1), (3, 0xA2), (4, 0xA3)]);
+    let answer = accepted(0x0080_0000, 1, 2, 4);
+    load_gives(&M, &result, LowFirst, &MEMORY, answer, &after);
+}
+
+#[test]
+fn tables_read_in_the_wrong_order() {
+    // The sizes 3 and 1 are read as 0x03000000 and 0x01000000.
+    for (bytes, order) in [
+        (&P, LowFirst),
+        (&Q, LowFirst),
+        (&P_LOW, HighFirst),
+        (&Q_LOW, HighFirst),
+    ] {
+        form_refused(bytes, order, 5, 4);
+        // Both in the wrong order: the first's fault is answered.
+        for other in [p(order.other()), q(order.other())] {
+            let answer = join_refused(5, 4, 1);
+            join_refuses(bytes, other, order, &[0xEE; 32], answer);
+        }
+    }
+    // The joins of P and Q, both ways.
+    for order in ByteOrder::BOTH {
+        for (first, second) in [(p(order), q(order)), (q(order), p(order))] {
+            let result = [&second[..4], &first[4..16], &second[4..]].concat();
+            form_refused(&result, order.other(), 5, 4);
+        }
+    }
+}
+
+#[test]
+fn one_header_word_in_the_wrong_order() {
+    for order in ByteOrder::BOTH {
+        let turned = |at| {
+            let mut bytes = *p(order);
+            turn_word(&mut bytes, at);
+            bytes
+        };
+        // The entry is read as 0x00008000, which is not open.
+        let after = with(&[(2, 0xA1), (3, 0xA2), (4, 0xA3)]);
+        let answer = accepted(0x0000_8000, 0, 1, 3);
+        load_gives(&M, &turned(0), order, &MEMORY, answer, &after);
+        // The join takes the second's entry as it stands.
+        let result = [&turned(0)[..4], &q(order)[4..16], &p(order)[4..]].concat();
+        let answer = joined(32, 2);
+        join_gives(q(order), &turned(0), order, &[0xEE; 32], answer, &result);
+        form_refused(&turned(4), order, 5, 4);
+        // The address is read as 0x02008000.
+        let answer = not_open(9, 4, 0x0200_8000);
+        load_refuses(&M, &turned(8), order, &MEMORY, answer);
+    }
+}
+
+#[test]
+fn header_words_of_different_bytes() {
+    let data: Vec<u8> = (0..0x1_0203).map(|i| (i % 251) as u8).collect();
+    let regions = map(&[(1, 0x1234_5678, 0x1_0203)]);
+    let before = vec![0x77; data.len()];
+    let answer = accepted(0x1234_5679, 1, 1, 0x1_0203);
+    let high = [0x12, 0x34, 0x56, 0x79, 0, 1, 2, 3, 0x12, 0x34, 0x56, 0x78];
+    let low = [0x79, 0x56, 0x34, 0x12, 3, 2, 1, 0, 0x78, 0x56, 0x34, 0x12];
+    for (header, order) in [(high, HighFirst), (low, LowFirst)] {
+        // One pad and the zero word.
+        let bytes = [&header[..], &data, &[0xFF], &[0; 4]].concat();
+        load_gives(&regions, &bytes, order, &before, answer, &data);
+        // The size is read as 0x03020100.
+        load_refuses(&regions, &bytes, order.other(), &before, refused(5, 4));
+    }
+}
+
+#[test]
+fn header_words_that_read_the_same_both_ways() {
+    // Entry 0x00808000, size 0x00010100, address 0x80000080.
+    let header = [0, 0x80, 0x80, 0, 0, 1, 1, 0, 0x80, 0, 0, 0x80];
+    let data: Vec<u8> = (0..0x1_0100).map(|i| (i % 251) as u8).collect();
+    let bytes = [&header[..], &data, &[0; 4]].concat();
+    let regions = map(&[(1, 0x0080_8000, 1), (1, 0x8000_0080, 0x1_0100)]);
+    let before = vec![0x77; data.len() + 1];
+    let after = [&[0x77], &data[..]].concat();
+    let twice = [&bytes[..data.len() + 12], &bytes[4..]].concat();
+    let length = twice.len();
+    for order in ByteOrder::BOTH {
+        let answer = accepted(0x0080_8000, 1, 1, 0x1_0100);
+        load_gives(&regions, &bytes, order, &before, answer, &after);
+        let output = vec![0xEE; length];
+        let answer = joined(length as u64, 2);
+        join_gives(&bytes, &bytes, order, &output, answer, &twice);
+    }
+}
+
+#[test]
+fn a_table_that_is_well_formed_in_both_orders() {
+    // High first the sizes are 0x100 and 0xFEF8; low first the only size is
+    // 0x10000, and the second section is data of the first.
+    let bytes = [
+        &[0, 0x20, 0, 0, 0, 0, 1, 0, 0, 0x20, 0, 0][..],
+        &[0x11; 0x100],
+        &[0, 0, 0xFE, 0xF8, 0, 0x30, 0, 0],
+        &[0x22; 0xFEF8],
+        &[0; 4],
+    ]
+    .concat();
+    let length = bytes.len();
+    assert_eq!(length, 12 + 0x1_0000 + 4);
+    let high = map(&[(1, 0x0020_0000, 0x100), (1, 0x0030_0000, 0xFEF8)]);
+    let after = [&[0x11; 0x100][..], &[0x22; 0xFEF8]].concat();
+    let answer = accepted(0x0020_0000, 1, 2, 0xFFF8);
+    load_gives(&high, &bytes, HighFirst, &[0x77; 0xFFF8], answer, &after);
+    let answer = not_open(9, 4, 0x0000_2000);
+    load_refuses(&high, &bytes, LowFirst, &[0x77; 0xFFF8], answer);
+    let low = map(&[(1, 0x0000_2000, 0x1_0000)]);
+    let after = &bytes[12..length - 4];
+    let answer = accepted(0x0000_2000, 1, 1, 0x1_0000);
+    load_gives(&low, &bytes, LowFirst, &[0x77; 0x1_0000], answer, after);
+    let answer = not_open(9, 4, 0x0020_0000);
+    load_refuses(&low, &bytes, HighFirst, &[0x77; 0x1_0000], answer);
+    // The join has the same bytes, and another count of sections.
+    let twice = [&bytes[..length - 4], &bytes[4..]].concat();
+    let output = vec![0xEE; twice.len()];
+    for (order, sections) in [(HighFirst, 4), (LowFirst, 2)] {
+        let answer = joined(twice.len() as u64, sections);
+        join_gives(&bytes, &bytes, order, &output, answer, &twice);
+    }
+}
+
+#[test]
+fn entries_in_each_order() {
+    for (entry, high, low) in [
+        ([0, 0, 0, 0], (0, 0), (0, 0)),
+        ([0xFF; 4], (0xFFFF_FFFF, 0), (0xFFFF_FFFF, 0)),
+        ([0, 0x80, 0x80, 0], (0x0080_8000, 0), (0x0080_8000, 0)),
+        ([0, 0x80, 0, 0], (0x0080_0000, 1), (0x0000_8000, 0)),
+        ([0, 0, 0x80, 0], (0x0000_8000, 0), (0x0080_0000, 1)),
+        ([0, 0x80, 0, 0x0F], (0x0080_000F, 1), (0x0F00_8000, 0)),
+        ([0x0F, 0, 0x80, 0], (0x0F00_8000, 0), (0x0080_000F, 1)),
+        ([0x10, 0, 0x80, 0], (0x1000_8000, 0), (0x0080_0010, 0)),
+        ([0, 0, 0, 1], (1, 0), (0x0100_0000, 0)),
+        ([1, 0, 0, 0], (0x0100_0000, 0), (1, 0)),
+        ([1, 2, 3, 4], (0x0102_0304, 0), (0x0403_0201, 0)),
+    ] {
+        let bytes = [entry, [0; 4]].concat();
+        for (order, (value, open)) in [(HighFirst, high), (LowFirst, low)] {
+            let answer = accepted(value, open, 0, 0);
+            load_gives(&M, &bytes, order, &MEMORY, answer, &MEMORY);
+            // As the second table of a join it gives its entry as it stands.
+            let result = [&entry, &p(order)[4..]].concat();
+            join_gives(p(order), &bytes, order, &[0xEE; 20], joined(20, 1), &result);
+        }
+    }
+}
+
+#[test]
+fn a_zero_word_has_four_zero_bytes() {
+    for order in ByteOrder::BOTH {
+        // One byte that is not zero makes it a size, and the section is cut.
+        for at in 4..8 {
+            for byte in [1, 0x80, 0xFF] {
+                let mut bytes = [0; 8];
+                bytes[at] = byte;
+                form_refused(&bytes, order, 5, 4);
+            }
+        }
+        // The same behind a section.
+        for at in 16..20 {
+            let mut bytes = *p(order);
+            bytes[at] = 1;
+            form_refused(&bytes, order, 5, 16);
+        }
+        // A size of 1 in the other order behind the zero word is not read.
+        let longer = [&p(order)[..], &header_word(1, order.other())].concat();
+        form_refused(&longer, order, 7, 20);
+    }
+}
+
+#[test]
+fn maps_are_high_first_in_both_orders() {
+    // First address 0x00010000, length 0x100. Low first it would be the other
+    // way round: 0x100 and 0x00010000.
+    let regions = [0x52, 0x47, 1, 0, 0, 1, 0, 0, 0, 0, 1, 0];
+    map_gives(&regions, 0, 0, 0x100);
+    let before = [0x77; 0x100];
+    // Over the top, which low first it would not be.
+    let over = [0x52, 0x47, 1, 0, 0xFF, 0xFF, 0xFF, 1, 0, 0, 1, 0];
+    for order in ByteOrder::BOTH {
+        let inside = table(0x0000_0200, &[(0x0001_0004, &[0xC1, 0xC2])], order);
+        let mut after = before;
+        after[4..6].copy_from_slice(&[0xC1, 0xC2]);
+        let answer = accepted(0x0000_0200, 0, 1, 2);
+        load_gives(&regions, &inside, order, &before, answer, &after);
+        load_refuses(&regions, &inside, order, &[0x77; 64], refused(3, 0));
+        let outside = table(0, &[(0x0000_8000, &[0xC1])], order);
+        let answer = not_open(9, 4, 0x0000_8000);
+        load_refuses(&regions, &outside, order, &before, answer);
+        load_refuses(&over, &inside, order, &before, refused(2, 0));
+    }
+}
+
+#[test]
+fn data_and_pads_are_never_reordered() {
+    let data: Vec<u8> = (1..=14).collect();
+    let sections: [(u32, &[u8], &[u8]); 3] = [
+        (0x0080_0000, &data[..4], &[]),
+        (0x0080_0004, &data[4..12], &[]),
+        (0x0080_000C, &data[12..], &[0xF1, 0xF2]),
+    ];
+    let after = [&data[..], &MEMORY[14..]].concat();
+    for order in ByteOrder::BOTH {
+        let bytes = padded_table(0x0080_0000, &sections, order);
+        let answer = accepted(0x0080_0000, 1, 3, 14);
+        load_gives(&M, &bytes, order, &MEMORY, answer, &after);
+        assert_eq!(bytes.len(), 48);
+        let result = [&q(order)[..4], &bytes[4..44], &q(order)[4..]].concat();
+        join_gives(&bytes, q(order), order, &[0xEE; 60], joined(60, 4), &result);
+        assert_eq!(result[12..16], [1, 2, 3, 4]);
+        assert_eq!(result[24..32], [5, 6, 7, 8, 9, 10, 11, 12]);
+        assert_eq!(result[40..44], [13, 14, 0xF1, 0xF2]);
+    }
 }
 
 // Configuration tables.

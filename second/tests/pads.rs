@@ -1,9 +1,10 @@
-//! Pads may hold anything, on generated tables and through the library's calls
-//! alone: with other pads a table has the same answers and leaves the same
-//! memory, and of a join only these pads differ.
+//! Pads may hold anything, on generated tables of either byte order and through
+//! the library's calls alone: with other pads a table has the same answers and
+//! leaves the same memory, and of a join only these pads differ.
 
 use second::calls;
 use second::cases::{self, Numbers, Regions, Section};
+use second::reference::ByteOrder;
 
 /// Generated cases of each law.
 const CASES: u64 = 60_000;
@@ -17,10 +18,10 @@ struct Pair {
 
 impl Pair {
     /// A pair that differs in some pad byte, or `None` where no pad changed.
-    fn made(numbers: &mut Numbers, regions: &Regions) -> Option<Pair> {
+    fn made(numbers: &mut Numbers, regions: &Regions, order: ByteOrder) -> Option<Pair> {
         let sections = cases::sections(numbers, regions);
         let entry = cases::entry(numbers, regions);
-        let table = cases::table_of(entry, &sections);
+        let table = cases::table_of(entry, &sections, order);
         let mut other = table.clone();
         cases::change_pads(numbers, &mut other, &sections);
         (other != table).then_some(Pair {
@@ -33,16 +34,22 @@ impl Pair {
 
 /// Judges and loads both tables of a pair, whose answers and memory must be
 /// equal, and answers the number and the place, and whether memory changed.
-fn same(numbers: &mut Numbers, regions: &Regions, table: &[u8], other: &[u8]) -> (u64, u64, bool) {
+fn same(
+    numbers: &mut Numbers,
+    regions: &Regions,
+    table: &[u8],
+    other: &[u8],
+    order: ByteOrder,
+) -> (u64, u64, bool) {
     let before = numbers.bytes(regions.memory_size() as usize);
     let mut memory = before.clone();
     let mut other_memory = before.clone();
-    let answer = calls::load(&regions.map, table, &mut memory);
-    let other_answer = calls::load(&regions.map, other, &mut other_memory);
+    let answer = calls::load(&regions.map, table, order, &mut memory);
+    let other_answer = calls::load(&regions.map, other, order, &mut other_memory);
     assert_eq!(answer, other_answer, "{table:02x?} and {other:02x?}");
     assert_eq!(memory, other_memory, "{table:02x?} and {other:02x?}");
-    assert_eq!(calls::judge(&regions.map, table), answer);
-    assert_eq!(calls::judge(&regions.map, other), answer);
+    assert_eq!(calls::judge(&regions.map, table, order), answer);
+    assert_eq!(calls::judge(&regions.map, other, order), answer);
     if answer.number != 0 {
         assert_eq!(memory, before, "memory after a refusal");
     }
@@ -55,10 +62,11 @@ fn other_pads_change_no_answer_and_no_memory() {
     let (mut pairs, mut stored, mut not_open) = (0, 0, 0);
     for _ in 0..CASES {
         let regions = cases::lendable_map(&mut numbers);
-        let Some(pair) = Pair::made(&mut numbers, &regions) else {
+        let order = numbers.order();
+        let Some(pair) = Pair::made(&mut numbers, &regions, order) else {
             continue;
         };
-        let (number, _, changed) = same(&mut numbers, &regions, &pair.table, &pair.other);
+        let (number, _, changed) = same(&mut numbers, &regions, &pair.table, &pair.other, order);
         // The form is right, so a section is not open or nothing is refused.
         assert!(number == 0 || number == 9, "number {number}");
         pairs += 1;
@@ -71,46 +79,21 @@ fn other_pads_change_no_answer_and_no_memory() {
     assert!(stored >= CASES / 10 && not_open >= CASES / 10);
 }
 
-/// What may stand in the place of a table's zero word so that a fault stands
-/// behind the sections: the bytes, the fault's number, and its place behind
-/// the sections.
-fn fault(numbers: &mut Numbers) -> (Vec<u8>, u64, u64) {
-    let pads = numbers.bytes(3);
-    match numbers.below(5) {
-        // The zero word is missing or cut.
-        0 => (vec![0; numbers.index(4)], 5, 0),
-        // A section of one byte is cut where its pads should stand.
-        1 => {
-            let section = cases::padded_section(numbers.word(), &[7], &pads);
-            (section[..9 + numbers.index(3)].to_vec(), 5, 0)
-        }
-        // All three pads are there, and the zero word behind them is missing.
-        2 => (cases::padded_section(0, &[7], &pads), 5, 12),
-        // Bytes after the zero word.
-        3 => (vec![0; 5 + numbers.index(4)], 7, 4),
-        // A section past the top.
-        _ => {
-            let mut bytes = cases::padded_section(0xFFFF_FFFF, &[7, 8], &pads[..2]);
-            bytes.extend([0; 4]);
-            (bytes, 8, 0)
-        }
-    }
-}
-
 #[test]
 fn other_pads_change_no_fault_behind_them() {
     let mut numbers = Numbers::new(cases::seed(), 51);
     let mut hits = [0; 9];
     for _ in 0..CASES {
         let regions = cases::lendable_map(&mut numbers);
-        let Some(pair) = Pair::made(&mut numbers, &regions) else {
+        let order = numbers.order();
+        let Some(pair) = Pair::made(&mut numbers, &regions, order) else {
             continue;
         };
         let sections_end = pair.table.len() - 4;
-        let (bytes, number, place) = fault(&mut numbers);
+        let (bytes, number, place) = cases::fault(&mut numbers, order);
         let table = [&pair.table[..sections_end], &bytes].concat();
         let other = [&pair.other[..sections_end], &bytes].concat();
-        let (found, at, _) = same(&mut numbers, &regions, &table, &other);
+        let (found, at, _) = same(&mut numbers, &regions, &table, &other, order);
         assert_eq!((found, at), (number, sections_end as u64 + place));
         hits[number as usize] += 1;
     }
@@ -126,8 +109,9 @@ fn other_pads_stand_in_the_join_and_nothing_else_changes() {
     let mut pairs = 0;
     for _ in 0..CASES {
         let regions = cases::lendable_map(&mut numbers);
-        let first = Pair::made(&mut numbers, &regions);
-        let second = Pair::made(&mut numbers, &regions);
+        let order = numbers.order();
+        let first = Pair::made(&mut numbers, &regions, order);
+        let second = Pair::made(&mut numbers, &regions, order);
         let (Some(first), Some(second)) = (first, second) else {
             continue;
         };
@@ -135,9 +119,12 @@ fn other_pads_stand_in_the_join_and_nothing_else_changes() {
         let room = length + numbers.pick(&[0, 1, 4, 33]);
         let mut output = numbers.bytes(room);
         let mut other = output.clone();
-        let answer = calls::join(&first.table, &second.table, &mut output);
+        let answer = calls::join(&first.table, &second.table, order, &mut output);
         assert_eq!((answer.number, answer.length), (0, length as u64));
-        assert_eq!(calls::join(&first.other, &second.other, &mut other), answer);
+        assert_eq!(
+            calls::join(&first.other, &second.other, order, &mut other),
+            answer
+        );
         // The first's sections keep their offsets; the second's stand behind
         // them, the first's length less 8 further on.
         for at in cases::pad_offsets(&first.sections) {

@@ -44,7 +44,9 @@ pub const TEST_TYPES: [(&str, &str); 2] = [
 ];
 
 /// Those that the rest of judging and loading may hold besides.
-pub const CALL_TYPES: [(&str, &str); 8] = [
+pub const CALL_TYPES: [(&str, &str); 9] = [
+    // The byte order of a table's header words.
+    ("words::ByteOrder", "HighFirst, LowFirst"),
     // Where the addresses of the permitted records so far begin and end.
     ("region_map::records::Span", "low: u64, high: u64"),
     // What is wrong with a map, and the answer that is given for it.

@@ -1,4 +1,3 @@
-pub mod HeaderLaws
 pub mod StepLaws
 pub mod ReadLaws
 pub mod FormLaws

@@ -10,73 +10,75 @@ use lib.Seq.{length-take-le}
 use lib.Dec.{ltb, eqb}
 use types.Run.{OneOf}
 use denote.Enum.Declared.{tagOf}
+use Rattle.words.specs.declared.ByteOrder.{ByteOrder}
 use Rattle.words.specs.Word.{padCount}
+use Rattle.words.specs.Header.{headerAt}
 use Rattle.words.specs.Refusal.{TABLE-CUT, BYTES-AFTER, PAST-TOP}
 use Rattle.words.proofs.ChoiceLaws.{if-split}
 use Rattle.boot_table.proofs.Step.{the-type}
 use Rattle.boot_table.specs.declared.Step.{Step}
 use Rattle.boot_table.specs.declared.Step.the-variants.{Section, End, Fault}
-use Rattle.boot_table.specs.Table.{headerAt, nextOf, endStep, sectionStep, stepAt, sectionAt}
+use Rattle.boot_table.specs.Table.{nextOf, endStep, sectionStep, stepAt, sectionAt}
 
 -- ---- when a step comes out as a fault
 
 -- no room for the size word
-pub step-cut : (t : List ℕ) (at : ℕ) → length t < at + 4 → stepAt t at ≡ Fault TABLE-CUT at
+pub step-cut : (o : ByteOrder) (t : List ℕ) (at : ℕ) → length t < at + 4 → stepAt o t at ≡ Fault TABLE-CUT at
 unfolding stepAt
-step-cut t at h = simp (lt-ltb _ _ h)
+step-cut o t at h = simp (lt-ltb _ _ h)
 
 -- room for it: the step goes by the size
-step-zero : (t : List ℕ) (at size : ℕ) → at + 4 ≤ length t → size ≡ headerAt t at → size ≡ 0 → stepAt t at ≡ endStep t at
+step-zero : (o : ByteOrder) (t : List ℕ) (at size : ℕ) → at + 4 ≤ length t → size ≡ headerAt o t at → size ≡ 0 → stepAt o t at ≡ endStep t at
 unfolding stepAt
-step-zero t at size head es z = rw (← es) (simp (le-ltb _ _ head, eq-eqb _ _ z))
+step-zero o t at size head es z = rw (← es) (simp (le-ltb _ _ head, eq-eqb _ _ z))
 
-step-some : (t : List ℕ) (at size : ℕ) → at + 4 ≤ length t → size ≡ headerAt t at → (size ≡ 0 → ⊥) → stepAt t at ≡ sectionStep t at size (headerAt t (at + 4))
+step-some : (o : ByteOrder) (t : List ℕ) (at size : ℕ) → at + 4 ≤ length t → size ≡ headerAt o t at → (size ≡ 0 → ⊥) → stepAt o t at ≡ sectionStep t at size (headerAt o t (at + 4))
 unfolding stepAt
-step-some t at size head es z = rw (← es) (simp (le-ltb _ _ head, ne-eqb _ _ z))
+step-some o t at size head es z = rw (← es) (simp (le-ltb _ _ head, ne-eqb _ _ z))
 
-module _ (t : List ℕ) (at size : ℕ) (head : at + 4 ≤ length t) (es : size ≡ headerAt t at) where
+module _ (o : ByteOrder) (t : List ℕ) (at size : ℕ) (head : at + 4 ≤ length t) (es : size ≡ headerAt o t at) where
   -- bytes after the zero word
-  pub step-after : size ≡ 0 → at + 4 < length t → stepAt t at ≡ Fault BYTES-AFTER (at + 4)
+  pub step-after : size ≡ 0 → at + 4 < length t → stepAt o t at ≡ Fault BYTES-AFTER (at + 4)
   unfolding endStep
-  step-after z h = step-zero t at size head es z ∙ simp (lt-ltb _ _ h)
+  step-after z h = step-zero o t at size head es z ∙ simp (lt-ltb _ _ h)
 
   -- no room for the section
-  pub step-short : (size ≡ 0 → ⊥) → length t < nextOf at size → stepAt t at ≡ Fault TABLE-CUT at
+  pub step-short : (size ≡ 0 → ⊥) → length t < nextOf at size → stepAt o t at ≡ Fault TABLE-CUT at
   unfolding sectionStep
-  step-short z h = step-some t at size head es z ∙ simp (lt-ltb _ _ h)
+  step-short z h = step-some o t at size head es z ∙ simp (lt-ltb _ _ h)
 
-  module _ (address : ℕ) (z : size ≡ 0 → ⊥) (within : nextOf at size ≤ length t) (ea : address ≡ headerAt t (at + 4)) where
+  module _ (address : ℕ) (z : size ≡ 0 → ⊥) (within : nextOf at size ≤ length t) (ea : address ≡ headerAt o t (at + 4)) where
     -- addresses past the top
-    pub step-high : 2 ^ 32 < address + size → stepAt t at ≡ Fault PAST-TOP at
+    pub step-high : 2 ^ 32 < address + size → stepAt o t at ≡ Fault PAST-TOP at
     unfolding sectionStep
-    step-high h = step-some t at size head es z ∙ rw (← ea) (simp (le-ltb _ _ within, lt-ltb _ _ h))
+    step-high h = step-some o t at size head es z ∙ rw (← ea) (simp (le-ltb _ _ within, lt-ltb _ _ h))
 
 -- ---- what a step depends on
 
 -- the length of the table and two header words, and no other byte
-pub step-same : (t u : List ℕ) (at : ℕ) → length t ≡ length u → headerAt t at ≡ headerAt u at → headerAt t (at + 4) ≡ headerAt u (at + 4)
-    → stepAt t at ≡ stepAt u at
+pub step-same : (o : ByteOrder) (t u : List ℕ) (at : ℕ) → length t ≡ length u → headerAt o t at ≡ headerAt o u at → headerAt o t (at + 4) ≡ headerAt o u (at + 4)
+    → stepAt o t at ≡ stepAt o u at
 unfolding stepAt endStep sectionStep
-step-same t u at long size address = rw (long, size, address) refl
+step-same o t u at long size address = rw (long, size, address) refl
 
 -- ---- sections and the end, as facts
 
 -- the facts of a section at an offset
-pub record IsSection (t : List ℕ) (at address size start next : ℕ) : Type 0 where
+pub record IsSection (o : ByteOrder) (t : List ℕ) (at address size start next : ℕ) : Type 0 where
   pub start-is : start ≡ at + 8
   pub next-is : next ≡ at + 8 + size + padCount size
   pub within : next ≤ length t
   pub some : 1 ≤ size
   pub head : at + 8 ≤ length t
-  pub size-is : size ≡ headerAt t at
-  pub address-is : address ≡ headerAt t (at + 4)
+  pub size-is : size ≡ headerAt o t at
+  pub address-is : address ≡ headerAt o t (at + 4)
   pub top : address + size ≤ 2 ^ 32
 
 -- where the facts of a section hold the step finds it
-pub section-step : (t : List ℕ) (at : ℕ) {address size start next : ℕ} → IsSection t at address size start next → stepAt t at ≡ Section address size start next
+pub section-step : (o : ByteOrder) (t : List ℕ) (at : ℕ) {address size start next : ℕ} → IsSection o t at address size start next → stepAt o t at ≡ Section address size start next
 unfolding sectionStep nextOf
-section-step t at {address} {size} i =
-    step-some t at size (omega (arith, i .head)) (i .size-is) (λ z. omega (arith, i .some))
+section-step o t at {address} {size} i =
+    step-some o t at size (omega (arith, i .head)) (i .size-is) (λ z. omega (arith, i .some))
     ∙ rw (← (i .address-is), i .start-is, i .next-is)
     (simp (
       le-ltb (length t) (at + 8 + size + padCount size) (omega (arith, i .within, i .next-is)),
@@ -84,72 +86,72 @@ section-step t at {address} {size} i =
     ))
 
 -- a zero word at the end of the table is its end
-pub end-step : (t : List ℕ) (at : ℕ) → length t ≡ at + 4 → headerAt t at ≡ 0 → stepAt t at ≡ End
+pub end-step : (o : ByteOrder) (t : List ℕ) (at : ℕ) → length t ≡ at + 4 → headerAt o t at ≡ 0 → stepAt o t at ≡ End
 unfolding endStep
-end-step t at l z = step-zero t at (headerAt t at) (omega arith) refl z ∙ simp (le-ltb (at + 4) (length t) (omega arith))
+end-step o t at l z = step-zero o t at (headerAt o t at) (omega arith) refl z ∙ simp (le-ltb (at + 4) (length t) (omega arith))
 
 -- ---- what an outcome says of the table
 
 -- the facts of each outcome
-Says : List ℕ → ℕ → Step → Type 0
-Says t at (Section address size start next) = IsSection t at address size start next
-Says t at End = (length t ≡ at + 4) × (headerAt t at ≡ 0)
-Says t at (Fault number place) = (1 ≤ number) × (number ≤ 8) × (at ≤ length t → place ≤ length t)
+Says : ByteOrder → List ℕ → ℕ → Step → Type 0
+Says o t at (Section address size start next) = IsSection o t at address size start next
+Says o t at End = (length t ≡ at + 4) × (headerAt o t at ≡ 0)
+Says o t at (Fault number place) = (1 ≤ number) × (number ≤ 8) × (at ≤ length t → place ≤ length t)
 
-section-says : (t : List ℕ) (at address size start next : ℕ) (s : Step) → IsSection t at address size start next → Section address size start next ≡ s → Says t at s
+section-says : (o : ByteOrder) (t : List ℕ) (at address size start next : ℕ) (s : Step) → IsSection o t at address size start next → Section address size start next ≡ s → Says o t at s
 unfolding Says
-section-says t at address size start next s i e = subst (Says t at) e i
+section-says o t at address size start next s i e = subst (Says o t at) e i
 
-end-says : (t : List ℕ) (at : ℕ) (s : Step) → length t ≡ at + 4 → headerAt t at ≡ 0 → End ≡ s → Says t at s
+end-says : (o : ByteOrder) (t : List ℕ) (at : ℕ) (s : Step) → length t ≡ at + 4 → headerAt o t at ≡ 0 → End ≡ s → Says o t at s
 unfolding Says
-end-says t at s l z e = subst (Says t at) e (l, z)
+end-says o t at s l z e = subst (Says o t at) e (l, z)
 
-fault-says : (t : List ℕ) (at number place : ℕ) (s : Step) → (1 ≤ number) × (number ≤ 8) × (at ≤ length t → place ≤ length t) → Fault number place ≡ s → Says t at s
+fault-says : (o : ByteOrder) (t : List ℕ) (at number place : ℕ) (s : Step) → (1 ≤ number) × (number ≤ 8) × (at ≤ length t → place ≤ length t) → Fault number place ≡ s → Says o t at s
 unfolding Says
-fault-says t at number place s h e = subst (Says t at) e h
+fault-says o t at number place s h e = subst (Says o t at) e h
 
 -- a step is followed down its tests
-step-says : (t : List ℕ) (at : ℕ) (s : Step) → stepAt t at ≡ s → Says t at s
+step-says : (o : ByteOrder) (t : List ℕ) (at : ℕ) (s : Step) → stepAt o t at ≡ s → Says o t at s
 unfolding stepAt endStep sectionStep nextOf
-step-says t at s e =
+step-says o t at s e =
     if-split (ltb (length t) (at + 4)) _ _ s e
-    (λ h1. fault-says t at _ _ s (omega arith, omega arith, λ h. h))
-    (λ h1 e1. if-split (eqb (headerAt t at) 0) _ _ s e1
+    (λ h1. fault-says o t at _ _ s (omega arith, omega arith, λ h. h))
+    (λ h1 e1. if-split (eqb (headerAt o t at) 0) _ _ s e1
     (λ h2 e2. if-split (ltb (at + 4) (length t)) _ _ s e2
-    (λ h3. fault-says t at _ _ s (omega arith, omega arith, λ h. omega (arith, ltb-true (at + 4) (length t) h3)))
-    (λ h3. end-says t at s (omega (arith, ltb-false (length t) (at + 4) h1, ltb-false (at + 4) (length t) h3)) (eqb-true _ _ h2)))
-    (λ h2 e2. if-split (ltb (length t) (nextOf at (headerAt t at))) _ _ s e2
-    (λ h3. fault-says t at _ _ s (omega arith, omega arith, λ h. h))
-    (λ h3 e3. if-split (ltb (2 ^ 32) (headerAt t (at + 4) + headerAt t at)) _ _ s e3
-    (λ h4. fault-says t at _ _ s (omega arith, omega arith, λ h. h))
-    (λ h4. section-says t at _ _ _ _ s (record {
+    (λ h3. fault-says o t at _ _ s (omega arith, omega arith, λ h. omega (arith, ltb-true (at + 4) (length t) h3)))
+    (λ h3. end-says o t at s (omega (arith, ltb-false (length t) (at + 4) h1, ltb-false (at + 4) (length t) h3)) (eqb-true _ _ h2)))
+    (λ h2 e2. if-split (ltb (length t) (nextOf at (headerAt o t at))) _ _ s e2
+    (λ h3. fault-says o t at _ _ s (omega arith, omega arith, λ h. h))
+    (λ h3 e3. if-split (ltb (2 ^ 32) (headerAt o t (at + 4) + headerAt o t at)) _ _ s e3
+    (λ h4. fault-says o t at _ _ s (omega arith, omega arith, λ h. h))
+    (λ h4. section-says o t at _ _ _ _ s (record {
       start-is = refl;
       next-is = refl;
       within = ltb-false _ _ h3;
-      some = omega (arith, eqb-false (headerAt t at) 0 h2);
-      head = omega (arith, ltb-false (length t) (at + 8 + headerAt t at + padCount (headerAt t at)) h3);
+      some = omega (arith, eqb-false (headerAt o t at) 0 h2);
+      head = omega (arith, ltb-false (length t) (at + 8 + headerAt o t at + padCount (headerAt o t at)) h3);
       size-is = refl;
       address-is = refl;
       top = ltb-false _ _ h4;
     })))))
 
 -- a section that the step finds has its facts
-pub section-of : (t : List ℕ) (at : ℕ) {address size start next : ℕ} → stepAt t at ≡ Section address size start next → IsSection t at address size start next
+pub section-of : (o : ByteOrder) (t : List ℕ) (at : ℕ) {address size start next : ℕ} → stepAt o t at ≡ Section address size start next → IsSection o t at address size start next
 unfolding Says
-section-of t at {address} {size} {start} {next} e = step-says t at (Section address size start next) e
+section-of o t at {address} {size} {start} {next} e = step-says o t at (Section address size start next) e
 
 -- the end is the end of the table, at a zero word
-pub end-of : (t : List ℕ) (at : ℕ) → stepAt t at ≡ End → (length t ≡ at + 4) × (headerAt t at ≡ 0)
+pub end-of : (o : ByteOrder) (t : List ℕ) (at : ℕ) → stepAt o t at ≡ End → (length t ≡ at + 4) × (headerAt o t at ≡ 0)
 unfolding Says
-end-of t at e = step-says t at End e
+end-of o t at e = step-says o t at End e
 
 -- a fault has a number from 1 to 8, and a place within the table
-pub fault-of : (t : List ℕ) (at : ℕ) {number place : ℕ} → stepAt t at ≡ Fault number place → (1 ≤ number) × (number ≤ 8) × (at ≤ length t → place ≤ length t)
+pub fault-of : (o : ByteOrder) (t : List ℕ) (at : ℕ) {number place : ℕ} → stepAt o t at ≡ Fault number place → (1 ≤ number) × (number ≤ 8) × (at ≤ length t → place ≤ length t)
 unfolding Says
-fault-of t at {number} {place} e = step-says t at (Fault number place) e
+fault-of o t at {number} {place} e = step-says o t at (Fault number place) e
 
-pub fault-number : (t : List ℕ) (at : ℕ) {number place : ℕ} → stepAt t at ≡ Fault number place → number ≡ 0 → ⊥
-fault-number t at e z = omega (arith, fault-of t at e .0)
+pub fault-number : (o : ByteOrder) (t : List ℕ) (at : ℕ) {number place : ℕ} → stepAt o t at ≡ Fault number place → number ≡ 0 → ⊥
+fault-number o t at e z = omega (arith, fault-of o t at e .0)
 
 -- ---- the last else of a let-else knows the tags that are left: 0 a section, 1 the end, 2 a fault
 
@@ -161,7 +163,7 @@ end-left (Fault number place) p q = absurd (⊎-elim (λ e. omega arith) (λ e. 
 
 -- ---- the section itself
 
-module _ (t : List ℕ) (at : ℕ) {address size start next : ℕ} (i : IsSection t at address size start next) where
+module _ (o : ByteOrder) (t : List ℕ) (at : ℕ) {address size start next : ℕ} (i : IsSection o t at address size start next) where
   -- its data stands at start
   pub body-is : sectionAt t at address size .body ≡ take size (drop start t)
   unfolding sectionAt

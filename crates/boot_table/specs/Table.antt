@@ -1,27 +1,19 @@
--- The boot table: its sections, its bytes, and what a walk over it finds. t is a table.
+-- The boot table: its sections, its bytes, and what a walk over it finds. t is a table, o the byte order of its header words.
 use Prim.Native.Nat.{ℕ, zero, suc, _+_, _^_}
 use mathlib.Core.List.{List, [], _∷_, _++_}
 use lib.ListN.{length, take, drop}
 use lib.Dec.{ltb, eqb}
 use Rattle.words.specs.Choice.{if}
-use Rattle.words.specs.Word.{wordAt, wordBytes, padCount}
+use Rattle.words.specs.declared.ByteOrder.{ByteOrder}
+use Rattle.words.specs.Word.{padCount}
+use Rattle.words.specs.Header.{headerAt, headerBytes}
 use Rattle.words.specs.Refusal.{TABLE-CUT, BYTES-AFTER, PAST-TOP}
 use Rattle.boot_table.specs.declared.Step.{Step}
 use Rattle.boot_table.specs.declared.Step.the-variants.{Section, End, Fault}
 
--- ---- header words
-
--- a header word of a table, which is its entry or a section's size or address: as it is read at an offset
-unfoldable pub headerAt : List ℕ → ℕ → ℕ
-headerAt t at = wordAt t at
-
--- and the bytes that it is written as
-unfoldable pub headerBytes : ℕ → List ℕ
-headerBytes n = wordBytes n
-
 -- the entry word of a table
-abbrev pub entryOf : List ℕ → ℕ
-entryOf t = headerAt t 0
+abbrev pub entryOf : ByteOrder → List ℕ → ℕ
+entryOf o t = headerAt o t 0
 
 -- ---- sections as data
 
@@ -31,17 +23,19 @@ pub record Sect : Type 0 where
   pub body : List ℕ
   pub pads : List ℕ
 
--- the bytes of a section: size word, address word, data, pads
-unfoldable pub chunk : Sect → List ℕ
-chunk s = headerBytes (length (s .body)) ++ headerBytes (s .address) ++ s .body ++ s .pads
+-- ---- sections as bytes
 
-unfoldable pub chunks : List Sect → List ℕ
-chunks [] = []
-chunks (s ∷ ss) = chunk s ++ chunks ss
+-- the bytes of a section: size word, address word, data, pads
+unfoldable pub chunk : ByteOrder → Sect → List ℕ
+chunk o s = headerBytes o (length (s .body)) ++ headerBytes o (s .address) ++ s .body ++ s .pads
+
+unfoldable pub chunks : ByteOrder → List Sect → List ℕ
+chunks o [] = []
+chunks o (s ∷ ss) = chunk o s ++ chunks o ss
 
 -- the table of an entry and sections: entry word, sections, zero word
-unfoldable pub tableOf : ℕ → List Sect → List ℕ
-tableOf entry ss = headerBytes entry ++ chunks ss ++ headerBytes 0
+unfoldable pub tableOf : ByteOrder → ℕ → List Sect → List ℕ
+tableOf o entry ss = headerBytes o entry ++ chunks o ss ++ headerBytes o 0
 
 -- ---- the walk step
 
@@ -61,11 +55,11 @@ sectionStep t at size address =
     (Section address size (at + 8) (nextOf at size)))
 
 -- the walk step: what stands at offset at
-unfoldable pub stepAt : List ℕ → ℕ → Step
-stepAt t at =
+unfoldable pub stepAt : ByteOrder → List ℕ → ℕ → Step
+stepAt o t at =
     if (ltb (length t) (at + 4)) (Fault TABLE-CUT at)
-    (if (eqb (headerAt t at) 0) (endStep t at)
-    (sectionStep t at (headerAt t at) (headerAt t (at + 4))))
+    (if (eqb (headerAt o t at) 0) (endStep t at)
+    (sectionStep t at (headerAt o t at) (headerAt o t (at + 4))))
 
 -- ---- reading a table
 
@@ -93,14 +87,14 @@ onStep after t at End = stop 0 0
 onStep after t at (Fault number place) = stop number place
 
 -- reading on from offset at, n steps at most
-unfoldable pub readFrom : ℕ → List ℕ → ℕ → Reading
-readFrom zero t at = stop TABLE-CUT at
-readFrom (suc n) t at = onStep (readFrom n t) t at (stepAt t at)
+unfoldable pub readFrom : ByteOrder → ℕ → List ℕ → ℕ → Reading
+readFrom o zero t at = stop TABLE-CUT at
+readFrom o (suc n) t at = onStep (readFrom o n t) t at (stepAt o t at)
 
 -- reading on from offset at: a table has fewer sections than bytes
-unfoldable pub readOn : List ℕ → ℕ → Reading
-readOn t at = readFrom (length t) t at
+unfoldable pub readOn : ByteOrder → List ℕ → ℕ → Reading
+readOn o t at = readFrom o (length t) t at
 
 -- reading a table: the entry word, and then the walk
-unfoldable pub reading : List ℕ → Reading
-reading t = if (ltb (length t) 4) (stop TABLE-CUT 0) (readOn t 4)
+unfoldable pub reading : ByteOrder → List ℕ → Reading
+reading o t = if (ltb (length t) 4) (stop TABLE-CUT 0) (readOn o t 4)

@@ -1,16 +1,19 @@
-// The boot table: one walk step, and the form of a whole table.
+// The boot table: one walk step, and the form of a whole table. Its header words are read in the byte order that is given.
 ghost use mathlib.Core.Path.{_≡_};
-ghost use Prim.Native.Nat.{_+_, _≤_};
+ghost use Prim.Native.Nat.{_+_, _^_, _≤_, _<_};
 ghost use lib.ListN.{length};
-ghost use Rattle.boot_table.specs.Table.{headerAt, entryOf, stepAt, readOn};
+ghost use lib.Dec.{ltb};
+ghost use Rattle.words.specs.Header.{headerAt};
+ghost use Rattle.boot_table.specs.Table.{entryOf, stepAt, readOn};
 ghost use Rattle.boot_table.specs.Form.{misformed, formOf};
+use words::ByteOrder;
 use words::TOP;
+use words::header_at;
 use words::padded;
 use words::refusal::BYTES_AFTER;
 use words::refusal::PAST_TOP;
 use words::refusal::TABLE_CUT;
 use words::refusal::TABLE_LONG;
-use words::word_at;
 
 // How many bytes a table has at most.
 pub const TABLE_LIMIT: usize = 16_777_216;
@@ -38,20 +41,36 @@ pub struct Form {
     pub bytes: usize,
 }
 
-// A header word of a table, which is its entry or a section's size or address.
-fn header_at(table: &[u8], at: usize) -> u32
-    requires { ⌜ at + 4 ≤ length (now table) ⌝ }
-    ensures { λ r. ⌜ r ≡ headerAt (now (table .entry)) at ⌝ }
+// The entry word of a table.
+pub fn entry_of(table: &[u8], order: ByteOrder) -> u32
+    requires { ⌜ 4 ≤ length (now table) ⌝ }
+    ensures { λ r. ⌜ r ≡ entryOf order (now (table .entry)) ⌝ }
 {
-    word_at(table, at)
+    header_at(table, order, 0)
 }
 
-// The entry word of a table.
-pub fn entry_of(table: &[u8]) -> u32
-    requires { ⌜ 4 ≤ length (now table) ⌝ }
-    ensures { λ r. ⌜ r ≡ entryOf (now (table .entry)) ⌝ }
+// The size word of the section at an offset: how many data bytes it has.
+fn size_at(table: &[u8], order: ByteOrder, at: usize) -> u32
+    requires { ⌜ at + 4 ≤ length (now table) ⌝ }
+    ensures { λ r. ⌜ r ≡ headerAt order (now (table .entry)) at ⌝ }
 {
-    header_at(table, 0)
+    header_at(table, order, at)
+}
+
+// The address word of the section at an offset.
+fn address_at(table: &[u8], order: ByteOrder, at: usize) -> u32
+    requires { ⌜ at + 8 ≤ length (now table) ⌝ }
+    ensures { λ r. ⌜ r ≡ headerAt order (now (table .entry)) (at + 4) ⌝ }
+{
+    header_at(table, order, at + 4)
+}
+
+// Whether address plus size is over 2^32. The size is taken from 2^32, since with the sum the compiled walk is slower.
+fn is_past_top(address: u32, size: usize) -> bool
+    requires { ⌜ size < 2 ^ 32 ⌝ }
+    ensures { λ r. ⌜ r ≡ ltb (2 ^ 32) (address + size) ⌝ }
+{
+    TOP - (size as u64) < address as u64
 }
 
 fn fault(number: u32, place: usize) -> Step
@@ -64,8 +83,8 @@ fn fault(number: u32, place: usize) -> Step
 }
 
 // The walk step: what stands at an offset of a table. Of a section it reads the size and the address, never data or pads.
-pub fn step_at(table: &[u8], at: usize) -> Step
-    ensures { λ r. ⌜ r ≡ stepAt (now (table .entry)) at ⌝ }
+pub fn step_at(table: &[u8], order: ByteOrder, at: usize) -> Step
+    ensures { λ r. ⌜ r ≡ stepAt order (now (table .entry)) at ⌝ }
 {
     let cut = fault(TABLE_CUT, at);
     if table.len() < at {
@@ -75,7 +94,7 @@ pub fn step_at(table: &[u8], at: usize) -> Step
     if room < 4 {
         return cut;
     }
-    let size = header_at(table, at) as usize;
+    let size = size_at(table, order, at) as usize;
     if size == 0 {
         if room == 4 {
             return Step::End;
@@ -91,8 +110,8 @@ pub fn step_at(table: &[u8], at: usize) -> Step
     if table.len() - start < padded {
         return cut;
     }
-    let address = header_at(table, at + 4);
-    if TOP < address as u64 + size as u64 {
+    let address = address_at(table, order, at);
+    if is_past_top(address, size) {
         return fault(PAST_TOP, at);
     }
     let next = start + padded;
@@ -105,16 +124,16 @@ pub fn step_at(table: &[u8], at: usize) -> Step
 }
 
 // The walk step of a table that has no fault from the offset on: only the end is told from a section.
-pub fn whole_step(table: &[u8], at: usize) -> Step
-    requires { ⌜ readOn (now table) at .fault ≡ 0 ⌝ }
-    ensures { λ r. ⌜ r ≡ stepAt (now (table .entry)) at ⌝ }
+pub fn whole_step(table: &[u8], order: ByteOrder, at: usize) -> Step
+    requires { ⌜ readOn order (now table) at .fault ≡ 0 ⌝ }
+    ensures { λ r. ⌜ r ≡ stepAt order (now (table .entry)) at ⌝ }
 {
-    let size = header_at(table, at) as usize;
+    let size = size_at(table, order, at) as usize;
     if size == 0 {
         return Step::End;
     }
     let start = at + 8;
-    let address = header_at(table, at + 4);
+    let address = address_at(table, order, at);
     let next = start + padded(size);
     Step::Section {
         address,
@@ -136,8 +155,8 @@ fn misformed(number: u32, place: usize) -> Form
 }
 
 // The form of a table: its limit, and then its first fault in table order.
-pub fn form_of(table: &[u8]) -> Form
-    ensures { λ r. ⌜ r ≡ formOf (now (table .entry)) ⌝ }
+pub fn form_of(table: &[u8], order: ByteOrder) -> Form
+    ensures { λ r. ⌜ r ≡ formOf order (now (table .entry)) ⌝ }
 {
     if TABLE_LIMIT < table.len() {
         return misformed(TABLE_LONG, 0);
@@ -149,7 +168,7 @@ pub fn form_of(table: &[u8]) -> Form
     let mut sections: usize = 0;
     let mut bytes: usize = 0;
     loop {
-        let step = step_at(table, at);
+        let step = step_at(table, order, at);
         let Step::Section {
             address: _,
             size,

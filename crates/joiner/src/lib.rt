@@ -7,9 +7,12 @@ ghost use Rattle.boot_table.specs.Form.{WellFormed};
 ghost use Rattle.joiner.specs.Join.{joinedLength, sectionBytes, joinedOver, joinRefused, joinAnswer, joinOutput};
 use boot_table::Step;
 use boot_table::TABLE_LIMIT;
+use boot_table::entry_of;
 use boot_table::form_of;
 use boot_table::step_at;
+use words::ByteOrder;
 use words::copy;
+use words::header_bytes;
 use words::refusal::OUTPUT_SHORT;
 use words::refusal::RESULT_LONG;
 
@@ -36,8 +39,8 @@ fn refused(number: u32, place: usize, which: u32) -> Joined
 }
 
 // Copies the sections of a well-formed table, as they stand, into the output from an offset on; answers the offset after them.
-fn copy_sections(table: &[u8], output: &mut [u8], from: usize) -> usize
-    requires { ⌜ WellFormed (now table) ⌝ }
+fn copy_sections(table: &[u8], order: ByteOrder, output: &mut [u8], from: usize) -> usize
+    requires { ⌜ WellFormed order (now table) ⌝ }
     requires { ⌜ from + length (now table) ≤ length (now output) + 8 ⌝ }
     ensures { λ r. ⌜ r + 8 ≡ from + length (now (table .entry)) ⌝ }
     ensures { λ _. ⌜ now (output .exit) ≡ over (now (output .entry)) from (sectionBytes (now (table .entry))) ⌝ }
@@ -45,7 +48,7 @@ fn copy_sections(table: &[u8], output: &mut [u8], from: usize) -> usize
     let mut at: usize = 4;
     let mut to = from;
     loop {
-        let step = step_at(table, at);
+        let step = step_at(table, order, at);
         let Step::Section {
             address: _,
             size: _,
@@ -62,28 +65,29 @@ fn copy_sections(table: &[u8], output: &mut [u8], from: usize) -> usize
 }
 
 // Writes the join of two well-formed tables to the front of an output that has room for it.
-fn write_join(first: &[u8], second: &[u8], output: &mut [u8])
-    requires { ⌜ WellFormed (now first) × WellFormed (now second) ⌝ }
+fn write_join(first: &[u8], second: &[u8], order: ByteOrder, output: &mut [u8])
+    requires { ⌜ WellFormed order (now first) × WellFormed order (now second) ⌝ }
     requires { ⌜ joinedLength (now first) (now second) ≤ length (now output) ⌝ }
-    ensures { λ _. ⌜ now (output .exit) ≡ joinedOver (now (first .entry)) (now (second .entry)) (now (output .entry)) ⌝ }
+    ensures { λ _. ⌜ now (output .exit) ≡ joinedOver order (now (first .entry)) (now (second .entry)) (now (output .entry)) ⌝ }
 {
-    copy(&second[0..4], output);
-    let middle = copy_sections(first, output, 4);
-    let end = copy_sections(second, output, middle);
-    let zero = second.len() - 4;
-    copy(&second[zero..], &mut output[end..]);
+    let entry = header_bytes(entry_of(second, order), order);
+    copy(&entry, output);
+    let middle = copy_sections(first, order, output, 4);
+    let end = copy_sections(second, order, output, middle);
+    let zero = header_bytes(0, order);
+    copy(&zero, &mut output[end..]);
 }
 
-// Joins two tables into the output: the second's entry, the first's sections, the second's sections, zero word.
-pub fn join(first: &[u8], second: &[u8], output: &mut [u8]) -> Joined
-    ensures { λ r. ⌜ r ≡ joinAnswer (now (first .entry)) (now (second .entry)) (length (now (output .entry))) ⌝ }
-    ensures { λ _. ⌜ now (output .exit) ≡ joinOutput (now (first .entry)) (now (second .entry)) (now (output .entry)) ⌝ }
+// Joins two tables into the output, in their byte order: the second's entry, the first's sections, the second's sections, zero word.
+pub fn join(first: &[u8], second: &[u8], order: ByteOrder, output: &mut [u8]) -> Joined
+    ensures { λ r. ⌜ r ≡ joinAnswer order (now (first .entry)) (now (second .entry)) (length (now (output .entry))) ⌝ }
+    ensures { λ _. ⌜ now (output .exit) ≡ joinOutput order (now (first .entry)) (now (second .entry)) (now (output .entry)) ⌝ }
 {
-    let a = form_of(first);
+    let a = form_of(first, order);
     if a.number != 0 {
         return refused(a.number, a.place, 1);
     }
-    let b = form_of(second);
+    let b = form_of(second, order);
     if b.number != 0 {
         return refused(b.number, b.place, 2);
     }
@@ -95,7 +99,7 @@ pub fn join(first: &[u8], second: &[u8], output: &mut [u8]) -> Joined
         return refused(OUTPUT_SHORT, 0, 0);
     }
     let sections = a.sections + b.sections;
-    write_join(first, second, output);
+    write_join(first, second, order, output);
     Joined {
         number: 0,
         place: 0,

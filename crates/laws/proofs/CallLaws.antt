@@ -8,6 +8,7 @@ use borrow.Author.Tests.{ltb-false}
 use lib.Dec.{ltb, eqb}
 use lib.ListN.{length, take}
 use lib.Seq.{length-take-le}
+use Rattle.words.specs.declared.ByteOrder.{ByteOrder}
 use Rattle.words.specs.Word.{Bytes}
 use Rattle.words.proofs.ChoiceLaws.{if-cases}
 use Rattle.boot_table.specs.Table.{Sect}
@@ -21,62 +22,62 @@ use Rattle.laws.specs.Demand3.{Joinable, Fitting, Joinable3, TwoSections
 use Rattle.laws.proofs.Theorem.{demand-3}
 
 -- the join, loaded, against the two tables in turn
-pub turn-calls : (m a b out whole turn : List ℕ) → Bytes a → Bytes b
+pub turn-calls : (o : ByteOrder) (m a b out whole turn : List ℕ) → Bytes a → Bytes b
     → (j : Joined) (out′ : List ℕ) (w f g : Answer) (whole′ turn₁ turn′ : List ℕ)
-    → j ≡ joinAnswer a b (length out) → out′ ≡ joinOutput a b out
-    → w ≡ loadAnswer m (take (j .length) out′) (length whole) → whole′ ≡ loadMemory m (take (j .length) out′) whole
-    → f ≡ loadAnswer m a (length turn) → turn₁ ≡ loadMemory m a turn
-    → g ≡ loadAnswer m b (length turn₁) → turn′ ≡ loadMemory m b turn₁
-    → (record { joined = j; whole = w; first = f; second = g } ≡ turnAnswers m a b out whole turn)
-    × ((out′ ≡ joinOutput a b out)
-    × ((whole′ ≡ loadMemory m (joinIn a b out) whole)
-    × ((turn′ ≡ loadMemory m b (loadMemory m a turn))
-    × (Joinable a b out → Fitting m whole → whole ≡ turn
-    → InTurn a b out (record { joined = j; whole = w; first = f; second = g }) out′ whole′ turn′))))
+    → j ≡ joinAnswer o a b (length out) → out′ ≡ joinOutput o a b out
+    → w ≡ loadAnswer o m (take (j .length) out′) (length whole) → whole′ ≡ loadMemory o m (take (j .length) out′) whole
+    → f ≡ loadAnswer o m a (length turn) → turn₁ ≡ loadMemory o m a turn
+    → g ≡ loadAnswer o m b (length turn₁) → turn′ ≡ loadMemory o m b turn₁
+    → (record { joined = j; whole = w; first = f; second = g } ≡ turnAnswers o m a b out whole turn)
+    × ((out′ ≡ joinOutput o a b out)
+    × ((whole′ ≡ loadMemory o m (joinIn o a b out) whole)
+    × ((turn′ ≡ loadMemory o m b (loadMemory o m a turn))
+    × (Joinable o a b out → Fitting m whole → whole ≡ turn
+    → InTurn o a b out (record { joined = j; whole = w; first = f; second = g }) out′ whole′ turn′))))
 unfolding joinIn
-turn-calls m a b out whole turn p q j out′ w f g whole′ turn₁ turn′ ej eo ew e1 ef et eg eu =
+turn-calls o m a b out whole turn p q j out′ w f g whole′ turn₁ turn′ ej eo ew e1 ef et eg eu =
     rw (eu, eg, et, ef, e1, ew, eo, ej)
-    (refl, (refl, (refl, (refl, λ sides fitting same. rw (← same) (demand-3 .two-tables a b out m whole p q sides fitting)))))
+    (refl, (refl, (refl, (refl, λ sides fitting same. rw (← same) (demand-3 .two-tables o a b out m whole p q sides fitting)))))
 
 -- three tables joined both ways
-pub three-calls : (a b c ab left bc right : List ℕ) → Bytes a → Bytes b → Bytes c
+pub three-calls : (o : ByteOrder) (a b c ab left bc right : List ℕ) → Bytes a → Bytes b → Bytes c
     → (x l y r : Joined) (ab′ left′ bc′ right′ : List ℕ)
-    → x ≡ joinAnswer a b (length ab) → ab′ ≡ joinOutput a b ab
-    → l ≡ joinAnswer (take (x .length) ab′) c (length left) → left′ ≡ joinOutput (take (x .length) ab′) c left
-    → y ≡ joinAnswer b c (length bc) → bc′ ≡ joinOutput b c bc
-    → r ≡ joinAnswer a (take (y .length) bc′) (length right) → right′ ≡ joinOutput a (take (y .length) bc′) right
-    → (record { ab = x; left = l; bc = y; right = r } ≡ threeAnswers a b c ab left bc right)
-    × ((ab′ ≡ joinOutput a b ab)
-    × ((left′ ≡ joinOutput (joinIn a b ab) c left)
-    × ((bc′ ≡ joinOutput b c bc)
-    × ((right′ ≡ joinOutput a (joinIn b c bc) right)
-    × (Joinable3 a b c ab left bc right
-    → Associative a b c ab left bc right (record { ab = x; left = l; bc = y; right = r }) ab′ left′ bc′ right′)))))
+    → x ≡ joinAnswer o a b (length ab) → ab′ ≡ joinOutput o a b ab
+    → l ≡ joinAnswer o (take (x .length) ab′) c (length left) → left′ ≡ joinOutput o (take (x .length) ab′) c left
+    → y ≡ joinAnswer o b c (length bc) → bc′ ≡ joinOutput o b c bc
+    → r ≡ joinAnswer o a (take (y .length) bc′) (length right) → right′ ≡ joinOutput o a (take (y .length) bc′) right
+    → (record { ab = x; left = l; bc = y; right = r } ≡ threeAnswers o a b c ab left bc right)
+    × ((ab′ ≡ joinOutput o a b ab)
+    × ((left′ ≡ joinOutput o (joinIn o a b ab) c left)
+    × ((bc′ ≡ joinOutput o b c bc)
+    × ((right′ ≡ joinOutput o a (joinIn o b c bc) right)
+    × (Joinable3 o a b c ab left bc right
+    → Associative o a b c ab left bc right (record { ab = x; left = l; bc = y; right = r }) ab′ left′ bc′ right′)))))
 unfolding joinIn
-three-calls a b c ab left bc right p q s x l y r ab′ left′ bc′ right′ ex eab el eleft ey ebc er eright =
+three-calls o a b c ab left bc right p q s x l y r ab′ left′ bc′ right′ ex eab el eleft ey ebc er eright =
     rw (eright, er, ebc, ey, eleft, el, eab, ex)
-    (refl, (refl, (refl, (refl, (refl, demand-3 .three-tables a b c ab left bc right p q s)))))
+    (refl, (refl, (refl, (refl, (refl, demand-3 .three-tables o a b c ab left bc right p q s)))))
 
 -- a table and the one with its two sections swapped
-pub swap-calls : (m t u mem other : List ℕ) → Bytes t
+pub swap-calls : (o : ByteOrder) (m t u mem other : List ℕ) → Bytes t
     → (a b : Answer) (mem′ other′ : List ℕ)
-    → a ≡ loadAnswer m t (length mem) → mem′ ≡ loadMemory m t mem
-    → b ≡ loadAnswer m u (length other) → other′ ≡ loadMemory m u other
-    → (record { original = a; swapped = b } ≡ swapAnswers m t u mem other)
-    × ((mem′ ≡ loadMemory m t mem)
-    × ((other′ ≡ loadMemory m u other)
-    × ((x y : Sect) → TwoSections t m mem x y → u ≡ swapOf t x y → mem ≡ other
+    → a ≡ loadAnswer o m t (length mem) → mem′ ≡ loadMemory o m t mem
+    → b ≡ loadAnswer o m u (length other) → other′ ≡ loadMemory o m u other
+    → (record { original = a; swapped = b } ≡ swapAnswers o m t u mem other)
+    × ((mem′ ≡ loadMemory o m t mem)
+    × ((other′ ≡ loadMemory o m u other)
+    × ((x y : Sect) → TwoSections o t m mem x y → u ≡ swapOf o t x y → mem ≡ other
     → Swapped x y (record { original = a; swapped = b }) mem′ other′)))
-swap-calls m t u mem other p a b mem′ other′ ea eo eb et =
+swap-calls o m t u mem other p a b mem′ other′ ea eo eb et =
     rw (et, eb, eo, ea)
-    (refl, (refl, (refl, λ x y sides is same. rw (← same, is) (demand-3 .two-swapped t m mem x y p sides))))
+    (refl, (refl, (refl, λ x y sides is same. rw (← same, is) (demand-3 .two-swapped o t m mem x y p sides))))
 
 -- the length that a join reports is within the output
-join-within : (a b : List ℕ) (room : ℕ) → joinAnswer a b room .length ≤ room
+join-within : (o : ByteOrder) (a b : List ℕ) (room : ℕ) → joinAnswer o a b room .length ≤ room
 unfolding joinAnswer
-join-within a b room =
-    if-cases within (not (eqb (formOf a .number) 0)) _ _ (λ e. omega arith)
-    (λ e. if-cases within (not (eqb (formOf b .number) 0)) _ _ (λ f. omega arith)
+join-within o a b room =
+    if-cases within (not (eqb (formOf o a .number) 0)) _ _ (λ e. omega arith)
+    (λ e. if-cases within (not (eqb (formOf o b .number) 0)) _ _ (λ f. omega arith)
     (λ f. if-cases within (ltb tableLimit (joinedLength a b)) _ _ (λ g. omega arith)
     (λ g. if-cases within (ltb room (joinedLength a b)) _ _ (λ h. omega arith) (λ h. ltb-false room (joinedLength a b) h))))
   where
@@ -84,9 +85,9 @@ join-within a b room =
     within r = r .length ≤ room
 
 -- so the output's first bytes, as many as a join reported, are a part of it
-module _ (a b out : List ℕ) (j : Joined) (out′ : List ℕ) (answer : j ≡ joinAnswer a b (length out)) (kept : length out′ ≡ length out) where
+module _ (o : ByteOrder) (a b out : List ℕ) (j : Joined) (out′ : List ℕ) (answer : j ≡ joinAnswer o a b (length out)) (kept : length out′ ≡ length out) where
   pub part-within : j .length ≤ length out′
-  part-within = omega (arith, ap (λ (r : Joined). r .length) answer, join-within a b (length out))
+  part-within = omega (arith, ap (λ (r : Joined). r .length) answer, join-within o a b (length out))
 
   pub part-length : j .length ≡ length (take (j .length) out′)
   part-length = sym (length-take-le (j .length) out′ part-within)

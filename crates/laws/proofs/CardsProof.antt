@@ -5,9 +5,10 @@ use mathlib.Core.List.{List, [], _∷_, map}
 use lib.Count.{ones}
 use lib.ListN.{length}
 use Rattle.words.specs.Word.{wordAt, wordBytes, padCount}
+use Rattle.words.specs.Header.{headerAt, headerBytes}
 use Rattle.region_map.specs.Map.{marked, permitted, reserved, known, zeroed, holds, shares, sharesAny, soundAt, faultFrom, mapFault}
 use Rattle.region_map.specs.Map.{anyHolds, isOpen, closedFrom, sizeBefore, holder, placeOf, faultAnswer, mapAnswer}
-use Rattle.boot_table.specs.Table.{headerAt, headerBytes, chunk, chunks, tableOf, nextOf, endStep, sectionStep, stepAt, sectionAt}
+use Rattle.boot_table.specs.Table.{chunk, chunks, tableOf, nextOf, endStep, sectionStep, stepAt, sectionAt}
 use Rattle.boot_table.specs.Table.{before, onStep, readFrom, readOn, reading}
 use Rattle.boot_table.specs.Form.{total, readForm, formOf}
 use Rattle.loader.specs.declared.Answer.{Answer}
@@ -37,8 +38,8 @@ data Outcome : Type 0 where
 
 -- what the definitions give for a card's call
 unfoldable given : Card → Outcome
-given (Load m t memory answer after) = Loads (loadAnswer m t (length memory)) (loadMemory m t memory)
-given (Join first second output answer after) = Joins (joinAnswer first second (length output)) (joinOutput first second output)
+given (Load order m t memory answer after) = Loads (loadAnswer order m t (length memory)) (loadMemory order m t memory)
+given (Join order first second output answer after) = Joins (joinAnswer order first second (length output)) (joinOutput order first second output)
 given (Configure t addresses values answer after) = Configures (configAnswer t addresses values) (configValues t addresses values)
 given (Decode manner value answer) = Decodes (decodeAs manner value)
 given (DecodeShort value answer) = Decodes (decodeShort value)
@@ -47,8 +48,8 @@ given (Label value answer) = Labels (labelAnswer value)
 
 -- what the card says
 unfoldable named : Card → Outcome
-named (Load m t memory answer after) = Loads answer after
-named (Join first second output answer after) = Joins answer after
+named (Load order m t memory answer after) = Loads answer after
+named (Join order first second output answer after) = Joins answer after
 named (Configure t addresses values answer after) = Configures answer after
 named (Decode manner value answer) = Decodes answer
 named (DecodeShort value answer) = Decodes answer
@@ -57,8 +58,8 @@ named (Label value answer) = Labels answer
 
 card-holds : (c : Card) → given c ≡ named c → Holds c
 unfolding given named
-card-holds (Load m t memory answer after) e = (cc, cc)
-card-holds (Join first second output answer after) e = (cc, cc)
+card-holds (Load order m t memory answer after) e = (cc, cc)
+card-holds (Join order first second output answer after) e = (cc, cc)
 card-holds (Configure t addresses values answer after) e = (cc, cc)
 card-holds (Decode manner value answer) e = cc
 card-holds (DecodeShort value answer) e = cc

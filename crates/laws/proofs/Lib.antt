@@ -2,4 +2,5 @@ pub mod JoinProof
 pub mod SwapProof
 pub mod Theorem
 pub mod CallLaws
+pub mod OrderProof
 pub mod CardsProof

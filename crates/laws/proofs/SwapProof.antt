@@ -6,8 +6,9 @@ use mathlib.Core.Bool.{Bool, true, false}
 use mathlib.Core.Option.{Option, some, Option·getD}
 use native.Mathlib.Omega.{arith}
 use lib.ListN.{length, getD, length-append}
+use Rattle.words.specs.declared.ByteOrder.{ByteOrder}
 use Rattle.words.specs.Word.{Bytes}
-use Rattle.boot_table.proofs.HeaderLaws.{header-lt}
+use Rattle.words.proofs.HeaderLaws.{header-lt}
 use Rattle.region_map.specs.Map.{isOpen, placeOf}
 use Rattle.boot_table.specs.Table.{Sect, Reading, chunk, chunks, tableOf, entryOf, reading}
 use Rattle.boot_table.specs.Form.{WellFormed}
@@ -42,74 +43,74 @@ last-swap x y a g = go (covers x a) (covers y a) refl refl
 all-swap : {P : Sect → Type 0} {x y : Sect} → All P (x ∷ y ∷ []) → All P (y ∷ x ∷ [])
 all-swap (also p (also q all-none)) = also q (also p all-none)
 
-length-two : (x y : Sect) → length (chunks (x ∷ y ∷ [])) ≡ length (chunk x) + length (chunk y)
+length-two : (o : ByteOrder) (x y : Sect) → length (chunks o (x ∷ y ∷ [])) ≡ length (chunk o x) + length (chunk o y)
 unfolding chunks
-length-two x y = simp (length-append, append-nil)
+length-two o x y = simp (length-append, append-nil)
 
 -- ---- an accepted table of two sections, and at every address of the later one its byte
 
-module _ (t m mem : List ℕ) (x y : Sect) (k : Accepted m t (length mem)) (two : reading t .sections ≡ x ∷ y ∷ []) where
+module _ (o : ByteOrder) (t m mem : List ℕ) (x y : Sect) (k : Accepted o m t (length mem)) (two : reading o t .sections ≡ x ∷ y ∷ []) where
   open-second : (a : ℕ) → covers y a ≡ true → isOpen m a ≡ true
   open-second = go (rw two at (k .opens))
     where
       go : All (Opens m) (x ∷ y ∷ []) → (a : ℕ) → covers y a ≡ true → isOpen m a ≡ true
       go (also p (also q all-none)) = q
 
-  later-byte : (a : ℕ) → covers y a ≡ true → getD (loadMemory m t mem) (placeOf m a) 0 ≡ byteFor y a
+  later-byte : (a : ℕ) → covers y a ≡ true → getD (loadMemory o m t mem) (placeOf m a) 0 ≡ byteFor y a
   later-byte a c =
-      loaded-at m t mem k a (open-second a c)
+      loaded-at o m t mem k a (open-second a c)
       ∙ ap (λ (b : Option ℕ). Option·getD b (getD mem (placeOf m a) 0)) (ap (λ (ss : List Sect). lastByte ss a) two ∙ last-second x y a c)
 
 -- ---- the table with the two swapped
 
-module _ (t m mem : List ℕ) (x y : Sect) (bytes : Bytes t) (s : TwoSections t m mem x y) where
-  k : Accepted m t (length mem)
-  k = accepted-iff m t (length mem) .0 (s .accepted)
+module _ (o : ByteOrder) (t m mem : List ℕ) (x y : Sect) (bytes : Bytes t) (s : TwoSections o t m mem x y) where
+  k : Accepted o m t (length mem)
+  k = accepted-iff o m t (length mem) .0 (s .accepted)
 
-  read-swapped : reading (swapOf t x y) ≡ record { sections = y ∷ x ∷ []; fault = 0; place = 0 }
-  read-swapped = read-table (entryOf t) (y ∷ x ∷ []) (all-swap (rw (s .sections) at (valid-read t bytes (k .form))))
+  read-swapped : reading o (swapOf o t x y) ≡ record { sections = y ∷ x ∷ []; fault = 0; place = 0 }
+  read-swapped = read-table o (entryOf o t) (y ∷ x ∷ []) (all-swap (rw (s .sections) at (valid-read o t bytes (k .form))))
 
-  sections-swapped : reading (swapOf t x y) .sections ≡ y ∷ x ∷ []
+  sections-swapped : reading o (swapOf o t x y) .sections ≡ y ∷ x ∷ []
   sections-swapped = ap (λ (r : Reading). r .sections) read-swapped
 
-  length-swapped : length (swapOf t x y) ≡ length t
+  length-swapped : length (swapOf o t x y) ≡ length t
   length-swapped =
-      let e : length (tableOf (entryOf t) (x ∷ y ∷ [])) ≡ length t =
-      ap (λ (ss : List Sect). length (tableOf (entryOf t) ss)) (sym (s .sections)) ∙ ap length (table-read t bytes (k .form)) in
+      let e : length (tableOf o (entryOf o t) (x ∷ y ∷ [])) ≡ length t =
+      ap (λ (ss : List Sect). length (tableOf o (entryOf o t) ss)) (sym (s .sections)) ∙ ap length (table-read o t bytes (k .form)) in
       omega (
         arith,
         e,
-        length-table (entryOf t) (y ∷ x ∷ []),
-        length-table (entryOf t) (x ∷ y ∷ []),
-        length-two x y,
-        length-two y x,
+        length-table o (entryOf o t) (y ∷ x ∷ []),
+        length-table o (entryOf o t) (x ∷ y ∷ []),
+        length-two o x y,
+        length-two o y x,
       )
 
-  form-swapped : WellFormed (swapOf t x y)
+  form-swapped : WellFormed o (swapOf o t x y)
   form-swapped = record { short = omega (arith, length-swapped, k .form .short); whole = ap (λ (r : Reading). r .fault) read-swapped }
 
   -- it is accepted with the same answer
-  k-swapped : Accepted m (swapOf t x y) (length mem)
-  k-swapped = exchange-accepted m t (swapOf t x y) [] [] x y form-swapped (s .sections) sections-swapped k
+  k-swapped : Accepted o m (swapOf o t x y) (length mem)
+  k-swapped = exchange-accepted o m t (swapOf o t x y) [] [] x y form-swapped (s .sections) sections-swapped k
 
-  same-answer : loadAnswer m (swapOf t x y) (length mem) ≡ loadAnswer m t (length mem)
+  same-answer : loadAnswer o m (swapOf o t x y) (length mem) ≡ loadAnswer o m t (length mem)
   same-answer =
-      exchange-answer m t (swapOf t x y) [] [] x y form-swapped (s .sections) sections-swapped (length mem)
-      (entry-table (entryOf t) (y ∷ x ∷ []) (header-lt t 0 bytes)) k
+      exchange-answer o m t (swapOf o t x y) [] [] x y form-swapped (s .sections) sections-swapped (length mem)
+      (entry-table o (entryOf o t) (y ∷ x ∷ []) (header-lt o t 0 bytes)) k
 
   -- and leaves the same memory exactly when the two sections agree
-  agree-same : Agree x y → loadMemory m (swapOf t x y) mem ≡ loadMemory m t mem
+  agree-same : Agree x y → loadMemory o m (swapOf o t x y) mem ≡ loadMemory o m t mem
   agree-same g =
-      accepted-memory m (swapOf t x y) mem k-swapped
-      ∙ same-memory m (k .sound) mem (k .size) (reading (swapOf t x y) .sections) (reading t .sections) (k-swapped .opens) (k .opens)
+      accepted-memory o m (swapOf o t x y) mem k-swapped
+      ∙ same-memory m (k .sound) mem (k .size) (reading o (swapOf o t x y) .sections) (reading o t .sections) (k-swapped .opens) (k .opens)
       (λ a. rw (sections-swapped, s .sections) (sym (last-swap x y a g)))
-      ∙ sym (accepted-memory m t mem k)
+      ∙ sym (accepted-memory o m t mem k)
 
-  same-agree : loadMemory m (swapOf t x y) mem ≡ loadMemory m t mem → Agree x y
+  same-agree : loadMemory o m (swapOf o t x y) mem ≡ loadMemory o m t mem → Agree x y
   same-agree e a c d =
-      sym (later-byte (swapOf t x y) m mem y x k-swapped sections-swapped a c)
+      sym (later-byte o (swapOf o t x y) m mem y x k-swapped sections-swapped a c)
       ∙ ap (λ (r : List ℕ). getD r (placeOf m a) 0) e
-      ∙ later-byte t m mem x y k (s .sections) a d
+      ∙ later-byte o t m mem x y k (s .sections) a d
 
-  pub swapped : Swapped x y (swapAnswers m t (swapOf t x y) mem mem) (loadMemory m t mem) (loadMemory m (swapOf t x y) mem)
-  swapped = record { accepted = accepted-iff m (swapOf t x y) (length mem) .1 k-swapped; answer = same-answer; memory = (same-agree, agree-same) }
+  pub swapped : Swapped x y (swapAnswers o m t (swapOf o t x y) mem mem) (loadMemory o m t mem) (loadMemory o m (swapOf o t x y) mem)
+  swapped = record { accepted = accepted-iff o m (swapOf o t x y) (length mem) .1 k-swapped; answer = same-answer; memory = (same-agree, agree-same) }

@@ -7,7 +7,7 @@ use Rattle.laws.proofs.SwapProof.{swapped}
 -- Every other side condition is used: that tables are bytes in the round trips, since a table of bytes is the table of its entry and sections.
 pub demand-3 : Demand3
 demand-3 = record {
-  two-tables = λ a b out m mem p q j fitting. in-turn a b out p q j m mem;
+  two-tables = λ o a b out m mem p q j fitting. in-turn o a b out p q j m mem;
   three-tables = associative;
   two-swapped = swapped;
 }

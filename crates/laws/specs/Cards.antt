@@ -4,6 +4,8 @@ use mathlib.Core.Path.{_≡_}
 use mathlib.Core.List.{List, [], _∷_, _++_}
 use mathlib.Core.Bool.{Bool, true, false}
 use lib.ListN.{length, replicate}
+use Rattle.words.specs.declared.ByteOrder.{ByteOrder}
+use Rattle.words.specs.declared.ByteOrder.the-variants.{HighFirst, LowFirst}
 use Rattle.loader.specs.declared.Answer.{Answer}
 use Rattle.loader.specs.Load.{loadAnswer, loadMemory}
 use Rattle.joiner.specs.declared.Joined.{Joined}
@@ -21,8 +23,8 @@ use Rattle.boot_strap.specs.Strap.{decodeAs, decodeShort, sameAnswer, labelAnsw
 
 -- a card is a call, with the whole answer and all that the lent buffer holds afterwards
 pub data Card : Type 0 where
-  Load : (map table memory : List ℕ) → Answer → List ℕ → Card
-  Join : (first second output : List ℕ) → Joined → List ℕ → Card
+  Load : ByteOrder → (map table memory : List ℕ) → Answer → List ℕ → Card
+  Join : ByteOrder → (first second output : List ℕ) → Joined → List ℕ → Card
   Configure : (table addresses values : List ℕ) → Configured → List ℕ → Card
   Decode : Manner → ℕ → StrapAnswer → Card
   DecodeShort : ℕ → StrapAnswer → Card
@@ -31,8 +33,8 @@ pub data Card : Type 0 where
 
 -- what a card claims
 abbrev pub Holds : Card → Type 0
-Holds (Load map table memory answer after) = (loadAnswer map table (length memory) ≡ answer) × (loadMemory map table memory ≡ after)
-Holds (Join first second output answer after) = (joinAnswer first second (length output) ≡ answer) × (joinOutput first second output ≡ after)
+Holds (Load order map table memory answer after) = (loadAnswer order map table (length memory) ≡ answer) × (loadMemory order map table memory ≡ after)
+Holds (Join order first second output answer after) = (joinAnswer order first second (length output) ≡ answer) × (joinOutput order first second output ≡ after)
 Holds (Configure table addresses values answer after) = (configAnswer table addresses values ≡ answer) × (configValues table addresses values ≡ after)
 Holds (Decode manner value answer) = decodeAs manner value ≡ answer
 Holds (DecodeShort value answer) = decodeShort value ≡ answer
@@ -55,6 +57,9 @@ refuse number place address = record { number = number; place = place; address =
 
 abbrev pub success : ℕ → ℕ → Joined
 success n sections = record { number = 0; place = 0; which = 0; length = n; sections = sections }
+
+abbrev pub unjoined : ℕ → ℕ → ℕ → Joined
+unjoined number place which = record { number = number; place = place; which = which; length = 0; sections = 0 }
 
 abbrev pub configured : ℕ → ℕ → Configured
 configured entries bits = record { number = 0; place = 0; entries = entries; bits = bits }
@@ -94,6 +99,15 @@ abbrev pub memoryP : List ℕ
 memoryP =
     0x10 ∷ 0x11 ∷ 0xA1 ∷ 0xA2 ∷ 0xA3 ∷ 0x15 ∷ 0x16 ∷ 0x17 ∷ 0x18 ∷ 0x19 ∷ 0x1A ∷ 0x1B ∷ 0x1C ∷ 0x1D ∷ 0x1E ∷ 0x1F ∷ []
 
+-- the memory after Q was loaded, and after P and then Q
+abbrev pub memoryQ : List ℕ
+memoryQ =
+    0x10 ∷ 0x11 ∷ 0x12 ∷ 0x13 ∷ 0xB7 ∷ 0x15 ∷ 0x16 ∷ 0x17 ∷ 0x18 ∷ 0x19 ∷ 0x1A ∷ 0x1B ∷ 0x1C ∷ 0x1D ∷ 0x1E ∷ 0x1F ∷ []
+
+abbrev pub memoryPQ : List ℕ
+memoryPQ =
+    0x10 ∷ 0x11 ∷ 0xA1 ∷ 0xA2 ∷ 0xB7 ∷ 0x15 ∷ 0x16 ∷ 0x17 ∷ 0x18 ∷ 0x19 ∷ 0x1A ∷ 0x1B ∷ 0x1C ∷ 0x1D ∷ 0x1E ∷ 0x1F ∷ []
+
 -- P joined with Q, and Q with P
 abbrev pub joinPQ : List ℕ
 joinPQ =
@@ -104,6 +118,31 @@ abbrev pub joinQP : List ℕ
 joinQP =
     0x00 ∷ 0x80 ∷ 0x00 ∷ 0x00 ∷ 0x00 ∷ 0x00 ∷ 0x00 ∷ 0x01 ∷ 0x00 ∷ 0x80 ∷ 0x00 ∷ 0x04 ∷ 0xB7 ∷ 0x00 ∷ 0x00 ∷ 0x00 ∷
     0x00 ∷ 0x00 ∷ 0x00 ∷ 0x03 ∷ 0x00 ∷ 0x80 ∷ 0x00 ∷ 0x02 ∷ 0xA1 ∷ 0xA2 ∷ 0xA3 ∷ 0x00 ∷ 0x00 ∷ 0x00 ∷ 0x00 ∷ 0x00 ∷ []
+
+-- P and Q low first: their entry, size and address words with the low byte first
+abbrev pub lowP : List ℕ
+lowP =
+    0x00 ∷ 0x00 ∷ 0x80 ∷ 0x00 ∷ 0x03 ∷ 0x00 ∷ 0x00 ∷ 0x00 ∷ 0x02 ∷ 0x00 ∷ 0x80 ∷ 0x00 ∷ 0xA1 ∷ 0xA2 ∷ 0xA3 ∷ 0x00 ∷ 0x00 ∷ 0x00 ∷ 0x00 ∷ 0x00 ∷ []
+
+abbrev pub lowQ : List ℕ
+lowQ =
+    0x04 ∷ 0x00 ∷ 0x80 ∷ 0x00 ∷ 0x01 ∷ 0x00 ∷ 0x00 ∷ 0x00 ∷ 0x04 ∷ 0x00 ∷ 0x80 ∷ 0x00 ∷ 0xB7 ∷ 0x00 ∷ 0x00 ∷ 0x00 ∷ 0x00 ∷ 0x00 ∷ 0x00 ∷ 0x00 ∷ []
+
+-- these joined, P with Q and Q with P
+abbrev pub lowPQ : List ℕ
+lowPQ =
+    0x04 ∷ 0x00 ∷ 0x80 ∷ 0x00 ∷ 0x03 ∷ 0x00 ∷ 0x00 ∷ 0x00 ∷ 0x02 ∷ 0x00 ∷ 0x80 ∷ 0x00 ∷ 0xA1 ∷ 0xA2 ∷ 0xA3 ∷ 0x00 ∷
+    0x01 ∷ 0x00 ∷ 0x00 ∷ 0x00 ∷ 0x04 ∷ 0x00 ∷ 0x80 ∷ 0x00 ∷ 0xB7 ∷ 0x00 ∷ 0x00 ∷ 0x00 ∷ 0x00 ∷ 0x00 ∷ 0x00 ∷ 0x00 ∷ []
+
+abbrev pub lowQP : List ℕ
+lowQP =
+    0x00 ∷ 0x00 ∷ 0x80 ∷ 0x00 ∷ 0x01 ∷ 0x00 ∷ 0x00 ∷ 0x00 ∷ 0x04 ∷ 0x00 ∷ 0x80 ∷ 0x00 ∷ 0xB7 ∷ 0x00 ∷ 0x00 ∷ 0x00 ∷
+    0x03 ∷ 0x00 ∷ 0x00 ∷ 0x00 ∷ 0x02 ∷ 0x00 ∷ 0x80 ∷ 0x00 ∷ 0xA1 ∷ 0xA2 ∷ 0xA3 ∷ 0x00 ∷ 0x00 ∷ 0x00 ∷ 0x00 ∷ 0x00 ∷ []
+
+-- an entry word of four different bytes, and a zero word
+abbrev pub fourBytes : List ℕ
+fourBytes =
+    0x04 ∷ 0x03 ∷ 0x02 ∷ 0x01 ∷ 0x00 ∷ 0x00 ∷ 0x00 ∷ 0x00 ∷ []
 
 -- an entry word and a zero word, with an entry that is open and with one that is not
 abbrev pub noSections : List ℕ
@@ -158,35 +197,33 @@ bothMasks =
 
 -- ---- the cards
 
--- the twelve cards of document 01, card 6 as request 2 and card 12 as request 7 of document 02 have them
+-- the twelve cards of document 01, card 6 as request 2 and card 12 as request 7 of document 02 have them; and for request 8 P and Q low first, and a word of four different bytes in each order
 abbrev pub cards : List Card
 cards =
     -- 1: P under M
-    Load mapM tableP memory answerP memoryP ∷
+    Load HighFirst mapM tableP memory answerP memoryP ∷
     -- 2: P joined with Q, and that loaded
-    Join tableP tableQ output (success 32 2) (joinPQ ++ replicate 4 0xEE) ∷
-    Load mapM joinPQ memory (accept 0x00800004 true 2 4)
-    (0x10 ∷ 0x11 ∷ 0xA1 ∷ 0xA2 ∷ 0xB7 ∷ 0x15 ∷ 0x16 ∷ 0x17 ∷ 0x18 ∷ 0x19 ∷ 0x1A ∷ 0x1B ∷ 0x1C ∷ 0x1D ∷ 0x1E ∷ 0x1F ∷ []) ∷
+    Join HighFirst tableP tableQ output (success 32 2) (joinPQ ++ replicate 4 0xEE) ∷
+    Load HighFirst mapM joinPQ memory (accept 0x00800004 true 2 4) memoryPQ ∷
     -- 3: Q joined with P, and that loaded
-    Join tableQ tableP output (success 32 2) (joinQP ++ replicate 4 0xEE) ∷
-    Load mapM joinQP memory (accept 0x00800000 true 2 4)
-    (0x10 ∷ 0x11 ∷ 0xA1 ∷ 0xA2 ∷ 0xA3 ∷ 0x15 ∷ 0x16 ∷ 0x17 ∷ 0x18 ∷ 0x19 ∷ 0x1A ∷ 0x1B ∷ 0x1C ∷ 0x1D ∷ 0x1E ∷ 0x1F ∷ []) ∷
+    Join HighFirst tableQ tableP output (success 32 2) (joinQP ++ replicate 4 0xEE) ∷
+    Load HighFirst mapM joinQP memory (accept 0x00800000 true 2 4) memoryP ∷
     -- 4: an entry word and a zero word
-    Load mapM noSections memory (accept 0x00800000 true 0 0) memory ∷
-    Load mapM noSectionsClosed memory (accept 0x00000000 false 0 0) memory ∷
+    Load HighFirst mapM noSections memory (accept 0x00800000 true 0 0) memory ∷
+    Load HighFirst mapM noSectionsClosed memory (accept 0x00000000 false 0 0) memory ∷
     -- 5: no bytes, P without its last byte, P with one byte more
-    Load mapM [] memory (refuse 5 0 0) memory ∷
-    Load mapM shortP memory (refuse 5 16 0) memory ∷
-    Load mapM longP memory (refuse 7 20 0) memory ∷
+    Load HighFirst mapM [] memory (refuse 5 0 0) memory ∷
+    Load HighFirst mapM shortP memory (refuse 5 16 0) memory ∷
+    Load HighFirst mapM longP memory (refuse 7 20 0) memory ∷
     -- 6: P with its pad byte 01 has P's answer and leaves P's memory
-    Load mapM paddedP memory answerP memoryP ∷
+    Load HighFirst mapM paddedP memory answerP memoryP ∷
     -- 7: size 1 at 0x0080000F, and size 2
-    Load mapM lastByteTable memory (accept 0x00800000 true 1 1)
+    Load HighFirst mapM lastByteTable memory (accept 0x00800000 true 1 1)
     (0x10 ∷ 0x11 ∷ 0x12 ∷ 0x13 ∷ 0x14 ∷ 0x15 ∷ 0x16 ∷ 0x17 ∷ 0x18 ∷ 0x19 ∷ 0x1A ∷ 0x1B ∷ 0x1C ∷ 0x1D ∷ 0x1E ∷ 0xC1 ∷ []) ∷
-    Load mapM pastMapTable memory (refuse 9 4 0x00800010) memory ∷
+    Load HighFirst mapM pastMapTable memory (refuse 9 4 0x00800010) memory ∷
     -- 8: size 1 at 0xFFFFFFFF, and size 2
-    Load mapM topTable memory (refuse 9 4 0xFFFFFFFF) memory ∷
-    Load mapM pastTopTable memory (refuse 8 4 0) memory ∷
+    Load HighFirst mapM topTable memory (refuse 9 4 0xFFFFFFFF) memory ∷
+    Load HighFirst mapM pastTopTable memory (refuse 8 4 0) memory ∷
     -- 9: register 0x0000000F, set 0x30, clear 0x03
     Configure setAndClear (0x02620000 ∷ []) (0x0000000F ∷ []) (configured 1 4) (0x0000003C ∷ []) ∷
     -- 10: the same register, set 1, clear 1
@@ -226,4 +263,27 @@ cards =
     Same 8192 64 (compared 18 false) ∷
     Same 64 8192 (compared 19 false) ∷
     Label 8192 (labelled 18 0) ∷
+    -- P and Q low first: loaded
+    Load LowFirst mapM lowP memory answerP memoryP ∷
+    Load LowFirst mapM lowQ memory (accept 0x00800004 true 1 1) memoryQ ∷
+    -- P joined with Q and Q with P, low first, and these loaded
+    Join LowFirst lowP lowQ output (success 32 2) (lowPQ ++ replicate 4 0xEE) ∷
+    Load LowFirst mapM lowPQ memory (accept 0x00800004 true 2 4) memoryPQ ∷
+    Join LowFirst lowQ lowP output (success 32 2) (lowQP ++ replicate 4 0xEE) ∷
+    Load LowFirst mapM lowQP memory (accept 0x00800000 true 2 4) memoryP ∷
+    -- each read in the wrong order: its size word counts more bytes than follow
+    Load HighFirst mapM lowP memory (refuse 5 4 0) memory ∷
+    Load HighFirst mapM lowQ memory (refuse 5 4 0) memory ∷
+    Load LowFirst mapM tableP memory (refuse 5 4 0) memory ∷
+    Load LowFirst mapM tableQ memory (refuse 5 4 0) memory ∷
+    -- and joined, where both or one of them are read in the wrong byte order
+    Join HighFirst lowP lowQ output (unjoined 5 4 1) output ∷
+    Join LowFirst tableQ tableP output (unjoined 5 4 1) output ∷
+    Join HighFirst tableP lowQ output (unjoined 5 4 2) output ∷
+    Join LowFirst lowQ tableP output (unjoined 5 4 2) output ∷
+    -- an entry word of four different bytes in each order: loaded, and joined with itself
+    Load HighFirst mapM fourBytes memory (accept 0x04030201 false 0 0) memory ∷
+    Load LowFirst mapM fourBytes memory (accept 0x01020304 false 0 0) memory ∷
+    Join HighFirst fourBytes fourBytes output (success 8 0) (fourBytes ++ replicate 28 0xEE) ∷
+    Join LowFirst fourBytes fourBytes output (success 8 0) (fourBytes ++ replicate 28 0xEE) ∷
     []

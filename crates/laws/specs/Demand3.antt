@@ -1,10 +1,11 @@
--- Demand 3: joining means loading in turn. A, B and C are a, b and c, lists of bytes; m is a map, mem memory; out, ab, left, bc, right are outputs.
+-- Demand 3: joining means loading in turn. A, B and C are a, b and c, lists of bytes; o is one byte order for all tables; m is a map, mem memory; out, ab, left, bc, right are outputs.
 use Prim.Native.Nat.{ℕ, _+_, _-_, _≤_}
 use mathlib.Core.Path.{_≡_}
 use mathlib.Core.Logic.{_↔_}
 use mathlib.Core.List.{List, [], _∷_, _++_}
 use mathlib.Core.Bool.{true}
 use lib.ListN.{length, take, drop}
+use Rattle.words.specs.declared.ByteOrder.{ByteOrder}
 use Rattle.words.specs.Word.{Bytes}
 use Rattle.region_map.specs.Map.{SoundMap, memorySize}
 use Rattle.boot_table.specs.Table.{Sect, tableOf, entryOf, reading}
@@ -32,9 +33,9 @@ Agree x y = (a : ℕ) → covers x a ≡ true → covers y a ≡ true → byteFo
 -- ---- side conditions
 
 -- well-formed tables A and B whose join fits the length limit, and an output with room
-pub record Joinable (a b out : List ℕ) : Type 0 where
-  pub first : WellFormed a
-  pub second : WellFormed b
+pub record Joinable (o : ByteOrder) (a b out : List ℕ) : Type 0 where
+  pub first : WellFormed o a
+  pub second : WellFormed o b
   pub fits : length a + length b - 8 ≤ tableLimit
   pub room : length a + length b - 8 ≤ length out
 
@@ -44,10 +45,10 @@ pub record Fitting (m mem : List ℕ) : Type 0 where
   pub size : length mem ≡ memorySize m
 
 -- three well-formed tables whose full join fits, and an output with room for each of the four joins
-pub record Joinable3 (a b c ab left bc right : List ℕ) : Type 0 where
-  pub first : WellFormed a
-  pub second : WellFormed b
-  pub third : WellFormed c
+pub record Joinable3 (o : ByteOrder) (a b c ab left bc right : List ℕ) : Type 0 where
+  pub first : WellFormed o a
+  pub second : WellFormed o b
+  pub third : WellFormed o c
   pub fits : length a + length b + length c - 16 ≤ tableLimit
   pub room-ab : length a + length b - 8 ≤ length ab
   pub room-left : length a + length b + length c - 16 ≤ length left
@@ -55,14 +56,14 @@ pub record Joinable3 (a b c ab left bc right : List ℕ) : Type 0 where
   pub room-right : length a + length b + length c - 16 ≤ length right
 
 -- an accepted table of just two sections, x and y
-pub record TwoSections (t m mem : List ℕ) (x y : Sect) : Type 0 where
-  pub accepted : IsAccepted (loadAnswer m t (length mem))
-  pub sections : reading t .sections ≡ x ∷ y ∷ []
+pub record TwoSections (o : ByteOrder) (t m mem : List ℕ) (x y : Sect) : Type 0 where
+  pub accepted : IsAccepted (loadAnswer o m t (length mem))
+  pub sections : reading o t .sections ≡ x ∷ y ∷ []
 
 -- ---- results, of the answers r and of what the lent buffers hold after the calls (written with a prime)
 
 -- A was joined with B
-pub record IsJoin (a b out : List ℕ) (r : Joined) (out′ : List ℕ) : Type 0 where
+pub record IsJoin (o : ByteOrder) (a b out : List ℕ) (r : Joined) (out′ : List ℕ) : Type 0 where
   -- the call succeeds, and the join's length and count are document 01's
   pub answer : r
       ≡ record {
@@ -70,17 +71,17 @@ pub record IsJoin (a b out : List ℕ) (r : Joined) (out′ : List ℕ) : Type 0
         place = 0;
         which = 0;
         length = length a + length b - 8;
-        sections = length (reading a .sections) + length (reading b .sections);
+        sections = length (reading o a .sections) + length (reading o b .sections);
       }
   -- its bytes are document 01's: B's entry, A's sections, B's sections, zero word
-  pub bytes : take (r .length) out′ ≡ tableOf (entryOf b) (reading a .sections ++ reading b .sections)
+  pub bytes : take (r .length) out′ ≡ tableOf o (entryOf o b) (reading o a .sections ++ reading o b .sections)
   -- output bytes past the result are not touched
   pub past : drop (r .length) out′ ≡ drop (r .length) out
 
 -- A was joined with B and the join loaded, and A and then B were loaded into another memory that held the same bytes
-pub record InTurn (a b out : List ℕ) (r : TurnAnswers) (out′ whole′ turn′ : List ℕ) : Type 0 where
+pub record InTurn (o : ByteOrder) (a b out : List ℕ) (r : TurnAnswers) (out′ whole′ turn′ : List ℕ) : Type 0 where
   -- the join's bytes, length and count are document 01's
-  pub joined : IsJoin a b out (r .joined) out′
+  pub joined : IsJoin o a b out (r .joined) out′
   -- the join is accepted exactly when A and B both are
   pub accepted : (IsAccepted (r .whole)) ↔ ((IsAccepted (r .first)) × (IsAccepted (r .second)))
   -- once accepted it leaves, at every byte, what loading A and then B into the same memory leaves
@@ -99,12 +100,12 @@ pub record InTurn (a b out : List ℕ) (r : TurnAnswers) (out′ whole′ turn�
       }
 
 -- A was joined with B and the result with C, and A with the join of B and C
-pub record Associative (a b c ab left bc right : List ℕ) (r : ThreeAnswers) (ab′ left′ bc′ right′ : List ℕ) : Type 0 where
+pub record Associative (o : ByteOrder) (a b c ab left bc right : List ℕ) (r : ThreeAnswers) (ab′ left′ bc′ right′ : List ℕ) : Type 0 where
   -- each of the four joins is document 01's; one that is joined again is its output's first bytes, as many as it reported
-  pub ab-joined : IsJoin a b ab (r .ab) ab′
-  pub left-joined : IsJoin (take (r .ab .length) ab′) c left (r .left) left′
-  pub bc-joined : IsJoin b c bc (r .bc) bc′
-  pub right-joined : IsJoin a (take (r .bc .length) bc′) right (r .right) right′
+  pub ab-joined : IsJoin o a b ab (r .ab) ab′
+  pub left-joined : IsJoin o (take (r .ab .length) ab′) c left (r .left) left′
+  pub bc-joined : IsJoin o b c bc (r .bc) bc′
+  pub right-joined : IsJoin o a (take (r .bc .length) bc′) right (r .right) right′
   -- both ways give the same bytes
   pub bytes : take (r .left .length) left′ ≡ take (r .right .length) right′
   -- and the same length and section count
@@ -122,14 +123,14 @@ pub record Swapped (x y : Sect) (r : SwapAnswers) (original′ swapped′ : List
 -- ---- the demand
 
 pub record Demand3 : Type 0 where
-  -- any well-formed tables A and B whose join fits, any output with room, any sound map, and any memory of its size, whatever bytes that holds
-  pub two-tables : (a b out m mem : List ℕ) → Bytes a → Bytes b → Joinable a b out → Fitting m mem
-      → InTurn a b out (turnAnswers m a b out mem mem)
-      (joinOutput a b out) (loadMemory m (joinIn a b out) mem) (loadMemory m b (loadMemory m a mem))
-  -- any three well-formed tables whose full join fits, given output room
-  pub three-tables : (a b c ab left bc right : List ℕ) → Bytes a → Bytes b → Bytes c → Joinable3 a b c ab left bc right
-      → Associative a b c ab left bc right (threeAnswers a b c ab left bc right)
-      (joinOutput a b ab) (joinOutput (joinIn a b ab) c left) (joinOutput b c bc) (joinOutput a (joinIn b c bc) right)
-  -- any accepted table of just two sections
-  pub two-swapped : (t m mem : List ℕ) (x y : Sect) → Bytes t → TwoSections t m mem x y
-      → Swapped x y (swapAnswers m t (swapOf t x y) mem mem) (loadMemory m t mem) (loadMemory m (swapOf t x y) mem)
+  -- any byte order, any well-formed tables A and B whose join fits, any output with room, any sound map, and any memory of its size, whatever bytes that holds
+  pub two-tables : (o : ByteOrder) (a b out m mem : List ℕ) → Bytes a → Bytes b → Joinable o a b out → Fitting m mem
+      → InTurn o a b out (turnAnswers o m a b out mem mem)
+      (joinOutput o a b out) (loadMemory o m (joinIn o a b out) mem) (loadMemory o m b (loadMemory o m a mem))
+  -- any byte order, any three well-formed tables whose full join fits, given output room
+  pub three-tables : (o : ByteOrder) (a b c ab left bc right : List ℕ) → Bytes a → Bytes b → Bytes c → Joinable3 o a b c ab left bc right
+      → Associative o a b c ab left bc right (threeAnswers o a b c ab left bc right)
+      (joinOutput o a b ab) (joinOutput o (joinIn o a b ab) c left) (joinOutput o b c bc) (joinOutput o a (joinIn o b c bc) right)
+  -- any byte order, any accepted table of just two sections
+  pub two-swapped : (o : ByteOrder) (t m mem : List ℕ) (x y : Sect) → Bytes t → TwoSections o t m mem x y
+      → Swapped x y (swapAnswers o m t (swapOf o t x y) mem mem) (loadMemory o m t mem) (loadMemory o m (swapOf o t x y) mem)

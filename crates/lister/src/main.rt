@@ -1,25 +1,15 @@
-// Lists one boot table from standard input.
+// Lists one boot table, whose header words have the high byte first, from standard input.
 ghost use mathlib.Core.Path.{_≡_};
-ghost use lib.ListN.{length};
+ghost use Rattle.words.specs.declared.ByteOrder.the-variants.{HighFirst};
+use list_input::list_input;
+use words::ByteOrder;
 
-// One byte more than an input may have.
-fn input_space() -> [u8; 65537]
-    ensures { λ r. ⌜ 65537 ≡ length r ⌝ }
+fn order() -> ByteOrder
+    ensures { λ r. ⌜ r ≡ HighFirst ⌝ }
 {
-    [0; 65537]
-}
-
-// Room for the text of the longest input.
-fn output_space() -> [u8; 131104]
-    ensures { λ r. ⌜ 131104 ≡ length r ⌝ }
-{
-    [0; 131104]
+    ByteOrder::HighFirst
 }
 
 fn main() {
-    let mut input = input_space();
-    let n = io::read_full(0, &mut input);
-    let mut output = output_space();
-    let m = listing::list(&input[..n], &mut output);
-    io::write_all(1, &output[..m]);
+    list_input(order());
 }

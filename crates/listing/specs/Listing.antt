@@ -1,9 +1,10 @@
--- The text of a table: what the lister prints. t is a table.
+-- The text of a table: what the listers print. t is a table, o its byte order.
 use Prim.Native.Nat.{ℕ, _+_, _*_}
 use mathlib.Core.List.{List, [], _∷_, _++_}
 use mathlib.Core.Bool.{not}
 use lib.ListN.{length}
 use lib.Dec.{ltb, eqb}
+use Rattle.words.specs.declared.ByteOrder.{ByteOrder}
 use Rattle.words.specs.Choice.{if}
 use Rattle.words.specs.Run.{over}
 use Rattle.boot_table.specs.Table.{entryOf, Sect, reading}
@@ -45,11 +46,11 @@ abbrev pub listLimit : ℕ
 listLimit = 65536
 
 -- the text of a table: one line where it is too long or refused; else the entry, the sections, and the end
-unfoldable pub text : List ℕ → List ℕ
-text t =
+unfoldable pub text : ByteOrder → List ℕ → List ℕ
+text o t =
     if (ltb listLimit (length t)) tooLong
-    (if (not (eqb (formOf t .number) 0)) (refusedLine (formOf t .number) (formOf t .place))
-    (entryLine (entryOf t) ++ sectionLines (reading t .sections) ++ endLine (length (reading t .sections)) (total (reading t .sections))))
+    (if (not (eqb (formOf o t .number) 0)) (refusedLine (formOf o t .number) (formOf o t .place))
+    (entryLine (entryOf o t) ++ sectionLines (reading o t .sections) ++ endLine (length (reading o t .sections)) (total (reading o t .sections))))
 
 -- how long a buffer has to be: enough for the text of any table of that length
 unfoldable pub textBound : List ℕ → ℕ
@@ -57,8 +58,8 @@ textBound t = if (ltb listLimit (length t)) 9 (32 + 2 * length t)
 
 -- ---- what listing answers, and what it leaves in a buffer: nothing where the buffer is too short, else the text at its front
 
-unfoldable pub listLength : List ℕ → ℕ → ℕ
-listLength t room = if (ltb room (textBound t)) 0 (length (text t))
+unfoldable pub listLength : ByteOrder → List ℕ → ℕ → ℕ
+listLength o t room = if (ltb room (textBound t)) 0 (length (text o t))
 
-unfoldable pub listOutput : List ℕ → List ℕ → List ℕ
-listOutput t out = if (ltb (length out) (textBound t)) out (over out 0 (text t))
+unfoldable pub listOutput : ByteOrder → List ℕ → List ℕ → List ℕ
+listOutput o t out = if (ltb (length out) (textBound t)) out (over out 0 (text o t))

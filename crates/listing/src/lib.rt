@@ -11,6 +11,7 @@ use boot_table::Step;
 use boot_table::entry_of;
 use boot_table::form_of;
 use boot_table::step_at;
+use words::ByteOrder;
 use words::copy;
 
 const LIST_LIMIT: usize = 65_536;
@@ -119,16 +120,16 @@ fn put_refused(buffer: &mut [u8], at: usize, number: usize, place: usize) -> usi
 // ---- the table
 
 // Writes a line for each section of a well-formed table.
-fn put_sections(table: &[u8], buffer: &mut [u8], from: usize) -> usize
-    requires { ⌜ WellFormed (now table) ⌝ }
-    requires { ⌜ from + length (sectionLines (reading (now table) .sections)) ≤ length (now buffer) ⌝ }
-    ensures { λ r. ⌜ r ≡ from + length (sectionLines (reading (now (table .entry)) .sections)) ⌝ }
-    ensures { λ _. ⌜ now (buffer .exit) ≡ over (now (buffer .entry)) from (sectionLines (reading (now (table .entry)) .sections)) ⌝ }
+fn put_sections(table: &[u8], order: ByteOrder, buffer: &mut [u8], from: usize) -> usize
+    requires { ⌜ WellFormed order (now table) ⌝ }
+    requires { ⌜ from + length (sectionLines (reading order (now table) .sections)) ≤ length (now buffer) ⌝ }
+    ensures { λ r. ⌜ r ≡ from + length (sectionLines (reading order (now (table .entry)) .sections)) ⌝ }
+    ensures { λ _. ⌜ now (buffer .exit) ≡ over (now (buffer .entry)) from (sectionLines (reading order (now (table .entry)) .sections)) ⌝ }
 {
     let mut at: usize = 4;
     let mut to = from;
     loop {
-        let step = step_at(table, at);
+        let step = step_at(table, order, at);
         let Step::Section {
             address,
             size,
@@ -144,9 +145,9 @@ fn put_sections(table: &[u8], buffer: &mut [u8], from: usize) -> usize
 }
 
 // Writes the text of a table to the front of a buffer, and answers its length: 0, with nothing written, where the buffer is too short.
-pub fn list(table: &[u8], buffer: &mut [u8]) -> usize
-    ensures { λ r. ⌜ r ≡ listLength (now (table .entry)) (length (now (buffer .entry))) ⌝ }
-    ensures { λ _. ⌜ now (buffer .exit) ≡ listOutput (now (table .entry)) (now (buffer .entry)) ⌝ }
+pub fn list(table: &[u8], order: ByteOrder, buffer: &mut [u8]) -> usize
+    ensures { λ r. ⌜ r ≡ listLength order (now (table .entry)) (length (now (buffer .entry))) ⌝ }
+    ensures { λ _. ⌜ now (buffer .exit) ≡ listOutput order (now (table .entry)) (now (buffer .entry)) ⌝ }
 {
     if LIST_LIMIT < table.len() {
         if buffer.len() < 9 {
@@ -157,11 +158,11 @@ pub fn list(table: &[u8], buffer: &mut [u8]) -> usize
     if buffer.len() < 32 + 2 * table.len() {
         return 0;
     }
-    let form = form_of(table);
+    let form = form_of(table, order);
     if form.number != 0 {
         return put_refused(buffer, 0, form.number as usize, form.place);
     }
-    let a = put_entry(buffer, 0, entry_of(table));
-    let b = put_sections(table, buffer, a);
+    let a = put_entry(buffer, 0, entry_of(table, order));
+    let b = put_sections(table, order, buffer, a);
     put_end(buffer, b, form.sections, form.bytes)
 }

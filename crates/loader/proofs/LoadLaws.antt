@@ -9,6 +9,7 @@ use native.Mathlib.Decide.{ℕ-discrete}
 use native.Mathlib.Omega.{arith}
 use lib.ListN.{length, getD}
 use lib.Dec.{eqb}
+use Rattle.words.specs.declared.ByteOrder.{ByteOrder}
 use Rattle.words.specs.Refusal.{MEMORY-LENGTH, NOT-OPEN}
 use Rattle.words.proofs.ChoiceLaws.{if-both}
 use Rattle.region_map.specs.Map.{mapAnswer, memorySize, isOpen, closedFrom, placeOf}
@@ -25,27 +26,27 @@ use Rattle.loader.proofs.AnswerLaws.{map-refused, map-judged, load-refu
 
 -- ---- acceptance
 
-module _ (m t : List ℕ) (room : ℕ) where
-  accept-only : loadAnswer m t room .number ≡ 0 → Accepted m t room
+module _ (o : ByteOrder) (m t : List ℕ) (room : ℕ) where
+  accept-only : loadAnswer o m t room .number ≡ 0 → Accepted o m t room
   accept-only z =
       by-cases (ℕ-discrete (mapAnswer m .number) 0)
       (λ s. by-cases (ℕ-discrete room (memorySize m))
       (λ e.
-      let q = table-only m t (ap (λ (r : Answer). r .number) (load-judged m t room (mapAnswer m) refl s e) ∙ z) in
+      let q = table-only o m t (ap (λ (r : Answer). r .number) (load-judged o m t room (mapAnswer m) refl s e) ∙ z) in
       record { sound = answer-sound m s; size = e; form = q .0; opens = q .1 })
-      (λ n. absurd (three (ap (λ (r : Answer). r .number) (load-sized m t room (mapAnswer m) refl s n) ∙ z))))
-      (λ n. absurd (n (ap (λ (r : Answer). r .number) (load-refused m t room (mapAnswer m) refl n) ∙ z)))
+      (λ n. absurd (three (ap (λ (r : Answer). r .number) (load-sized o m t room (mapAnswer m) refl s n) ∙ z))))
+      (λ n. absurd (n (ap (λ (r : Answer). r .number) (load-refused o m t room (mapAnswer m) refl n) ∙ z)))
     where
       three : _≡_ {A = ℕ} 3 0 → ⊥
       three e = omega arith
 
   -- an accepted table's answer
-  pub accepted-answer : Accepted m t room → loadAnswer m t room ≡ accepted m t
+  pub accepted-answer : Accepted o m t room → loadAnswer o m t room ≡ accepted o m t
   accepted-answer a =
-      sym (load-judged m t room (mapAnswer m) refl (ap (λ (r : MapAnswer). r .number) (sound-answer m (a .sound))) (a .size)) ∙ table-if m t (a .form) (a .opens)
+      sym (load-judged o m t room (mapAnswer m) refl (ap (λ (r : MapAnswer). r .number) (sound-answer m (a .sound))) (a .size)) ∙ table-if o m t (a .form) (a .opens)
 
   -- a table is accepted exactly when the map is sound, memory has the map's size, and the table is well-formed and keeps the map rule
-  pub accepted-iff : (loadAnswer m t room .number ≡ 0) ↔ (Accepted m t room)
+  pub accepted-iff : (loadAnswer o m t room .number ≡ 0) ↔ (Accepted o m t room)
   unfolding accepted
   accepted-iff = (accept-only, λ a. ap (λ (r : Answer). r .number) (accepted-answer a))
 
@@ -76,58 +77,58 @@ fair-rule m fine at [] f = f
 fair-rule m fine at (s ∷ ss) f =
     fair-closed at (mapRule m fine (nextOf at (length (s .body))) ss) (closedFrom m (length (s .body)) (s .address)) (fair-rule m fine (nextOf at (length (s .body))) ss f)
 
-fair-table : (m t : List ℕ) → Fair (tableAnswer m t)
+fair-table : (o : ByteOrder) (m t : List ℕ) → Fair (tableAnswer o m t)
 unfolding tableAnswer formFirst accepted
-fair-table m t =
-    if-both Fair (not (eqb (formOf t .number) 0)) _ _ (fair-refused (formOf t .number) (formOf t .place))
-    (fair-rule m (accepted m t) 4 (reading t .sections) (λ n. absurd (n refl)))
+fair-table o m t =
+    if-both Fair (not (eqb (formOf o t .number) 0)) _ _ (fair-refused (formOf o t .number) (formOf o t .place))
+    (fair-rule m (accepted o m t) 4 (reading o t .sections) (λ n. absurd (n refl)))
 
 -- a refusal has its number and place, and all else zero
-pub refusal-blank : (m t : List ℕ) (room : ℕ) → (loadAnswer m t room .number ≡ 0 → ⊥) → Blank (loadAnswer m t room)
+pub refusal-blank : (o : ByteOrder) (m t : List ℕ) (room : ℕ) → (loadAnswer o m t room .number ≡ 0 → ⊥) → Blank (loadAnswer o m t room)
 unfolding loadAnswer
-refusal-blank m t room =
+refusal-blank o m t room =
     if-both Fair (not (eqb (mapAnswer m .number) 0)) _ _ (fair-refused (mapAnswer m .number) (mapAnswer m .place))
-    (if-both Fair (not (eqb room (memorySize m))) _ _ (fair-refused MEMORY-LENGTH 0) (fair-table m t))
+    (if-both Fair (not (eqb room (memorySize m))) _ _ (fair-refused MEMORY-LENGTH 0) (fair-table o m t))
 
 -- and changes no byte
-pub refusal-keeps : (m t mem : List ℕ) → (loadAnswer m t (length mem) .number ≡ 0 → ⊥) → loadMemory m t mem ≡ mem
-refusal-keeps m t mem n = sym (memory-kept m t mem (loadAnswer m t (length mem)) refl n)
+pub refusal-keeps : (o : ByteOrder) (m t mem : List ℕ) → (loadAnswer o m t (length mem) .number ≡ 0 → ⊥) → loadMemory o m t mem ≡ mem
+refusal-keeps o m t mem n = sym (memory-kept o m t mem (loadAnswer o m t (length mem)) refl n)
 
 -- ---- judging and loading
 
 -- judging answers as loading does wherever the memory has the map's size
-pub judge-as-load : (m t : List ℕ) (room : ℕ) → room ≡ memorySize m → judgeAnswer m t ≡ loadAnswer m t room
-judge-as-load m t room e =
+pub judge-as-load : (o : ByteOrder) (m t : List ℕ) (room : ℕ) → room ≡ memorySize m → judgeAnswer o m t ≡ loadAnswer o m t room
+judge-as-load o m t room e =
     by-cases (ℕ-discrete (mapAnswer m .number) 0)
-    (λ s. sym (map-judged m t (mapAnswer m) refl s) ∙ load-judged m t room (mapAnswer m) refl s e)
-    (λ n. sym (map-refused m t (mapAnswer m) refl n) ∙ load-refused m t room (mapAnswer m) refl n)
+    (λ s. sym (map-judged o m t (mapAnswer m) refl s) ∙ load-judged o m t room (mapAnswer m) refl s e)
+    (λ n. sym (map-refused o m t (mapAnswer m) refl n) ∙ load-refused o m t room (mapAnswer m) refl n)
 
 -- so a table is accepted by judging exactly where loading it into memory of the map's size accepts it
-pub judged-iff : (m t : List ℕ) → (judgeAnswer m t .number ≡ 0) ↔ (Accepted m t (memorySize m))
-judged-iff m t = rw (judge-as-load m t (memorySize m) refl) (accepted-iff m t (memorySize m))
+pub judged-iff : (o : ByteOrder) (m t : List ℕ) → (judgeAnswer o m t .number ≡ 0) ↔ (Accepted o m t (memorySize m))
+judged-iff o m t = rw (judge-as-load o m t (memorySize m) refl) (accepted-iff o m t (memorySize m))
 
 -- the answer does not depend on the bytes that memory holds
-pub any-memory : (m t mem other : List ℕ) → length mem ≡ length other → loadAnswer m t (length mem) ≡ loadAnswer m t (length other)
-any-memory m t mem other e = ap (loadAnswer m t) e
+pub any-memory : (o : ByteOrder) (m t mem other : List ℕ) → length mem ≡ length other → loadAnswer o m t (length mem) ≡ loadAnswer o m t (length other)
+any-memory o m t mem other e = ap (loadAnswer o m t) e
 
 -- ---- memory after a load
 
 -- memory keeps its length
-pub length-load : (m t mem : List ℕ) → length (loadMemory m t mem) ≡ length mem
+pub length-load : (o : ByteOrder) (m t mem : List ℕ) → length (loadMemory o m t mem) ≡ length mem
 unfolding loadMemory
-length-load m t mem =
-    if-both (λ (x : List ℕ). length x ≡ length mem) (eqb (loadAnswer m t (length mem) .number) 0) _ _ (length-storeAll m mem (reading t .sections)) refl
+length-load o m t mem =
+    if-both (λ (x : List ℕ). length x ≡ length mem) (eqb (loadAnswer o m t (length mem) .number) 0) _ _ (length-storeAll m mem (reading o t .sections)) refl
 
-module _ (m t mem : List ℕ) (a : Accepted m t (length mem)) where
+module _ (o : ByteOrder) (m t mem : List ℕ) (a : Accepted o m t (length mem)) where
   -- the sections stored in table order
-  pub accepted-memory : loadMemory m t mem ≡ storeAll m mem (reading t .sections)
-  accepted-memory = sym (memory-stored m t mem (loadAnswer m t (length mem)) refl (accepted-iff m t (length mem) .1 a))
+  pub accepted-memory : loadMemory o m t mem ≡ storeAll m mem (reading o t .sections)
+  accepted-memory = sym (memory-stored o m t mem (loadAnswer o m t (length mem)) refl (accepted-iff o m t (length mem) .1 a))
 
   -- at the place of an open address: the byte of the last section that covers it, else the old one
   pub loaded-at : (x : ℕ) → isOpen m x ≡ true
-      → getD (loadMemory m t mem) (placeOf m x) 0 ≡ Option·getD (lastByte (reading t .sections) x) (getD mem (placeOf m x) 0)
-  loaded-at x o = rw accepted-memory (storeAll-at m (a .sound) mem (a .size) (a .opens) x o)
+      → getD (loadMemory o m t mem) (placeOf m x) 0 ≡ Option·getD (lastByte (reading o t .sections) x) (getD mem (placeOf m x) 0)
+  loaded-at x is = rw accepted-memory (storeAll-at m (a .sound) mem (a .size) (a .opens) x is)
 
   -- every other place keeps its byte
-  pub loaded-else : (p : ℕ) → ((x : ℕ) → isOpen m x ≡ true → p ≢ placeOf m x) → getD (loadMemory m t mem) p 0 ≡ getD mem p 0
+  pub loaded-else : (p : ℕ) → ((x : ℕ) → isOpen m x ≡ true → p ≢ placeOf m x) → getD (loadMemory o m t mem) p 0 ≡ getD mem p 0
   loaded-else p away = rw accepted-memory (storeAll-miss m mem (a .opens) p away)

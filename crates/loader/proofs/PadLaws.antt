@@ -1,11 +1,12 @@
--- Pads are free: tables that differ in pad bytes alone have the same answers and leave the same memory. m is a map.
+-- Tables that are alike but for their pads have the same answers and leave the same memory, each in its own byte order; so do tables that differ in pad bytes alone. m is a map, t and u are tables, o and p byte orders.
 use Prim.Native.Nat.{ℕ}
 use mathlib.Core.Path.{_≡_, refl, ap}
 use mathlib.Core.List.{List, [], _∷_, map}
 use lib.ListN.{length, length-map}
+use Rattle.words.specs.declared.ByteOrder.{ByteOrder}
 use Rattle.region_map.specs.Map.{closedFrom}
-use Rattle.boot_table.specs.Table.{Sect, nextOf, reading}
-use Rattle.boot_table.specs.Form.{total}
+use Rattle.boot_table.specs.Table.{Sect, entryOf, nextOf, reading}
+use Rattle.boot_table.specs.Form.{total, formOf}
 use Rattle.boot_table.specs.Pads.{DifferInPads, bare}
 use Rattle.boot_table.proofs.PadLaws.{by-bare, total-bare, pads-entry, pads-sections, pads-form}
 use Rattle.loader.specs.declared.Answer.{Answer}
@@ -25,32 +26,45 @@ unfolding storeAll bare
 store-bare m mem [] = refl
 store-bare m mem (s ∷ ss) = store-bare m (storeBytes m mem (s .address) (s .body)) ss
 
--- ---- answers and memory
+-- ---- tables of one form and one entry, whose sections differ in their pads at most, load alike; each has its own byte order
 
-module _ (m t u : List ℕ) (d : DifferInPads t u) where
-  same-accepted : accepted m t ≡ accepted m u
+module _ (o p : ByteOrder) (m t u : List ℕ) (form : formOf o t ≡ formOf p u) (entry : entryOf o t ≡ entryOf p u)
+    (sections : map bare (reading o t .sections) ≡ map bare (reading p u .sections)) where
+  alike-accepted : accepted o m t ≡ accepted p m u
   unfolding accepted
-  same-accepted =
-      let sections : length (reading t .sections) ≡ length (reading u .sections) =
-      by-bare length (λ ss. length-map ss bare) (reading t .sections) (reading u .sections) (pads-sections t u d) in
-      rw (pads-entry t u d, sections, by-bare total total-bare (reading t .sections) (reading u .sections) (pads-sections t u d)) refl
+  alike-accepted =
+      let count : length (reading o t .sections) ≡ length (reading p u .sections) =
+      by-bare length (λ ss. length-map ss bare) (reading o t .sections) (reading p u .sections) sections in
+      rw (entry, count, by-bare total total-bare (reading o t .sections) (reading p u .sections) sections) refl
 
-  same-answer : tableAnswer m t ≡ tableAnswer m u
+  alike-answer : tableAnswer o m t ≡ tableAnswer p m u
   unfolding tableAnswer formFirst
-  same-answer =
-      rw (pads-form t u d, same-accepted, by-bare (mapRule m (accepted m u) 4) (rule-bare m (accepted m u) 4) (reading t .sections) (reading u .sections) (pads-sections t u d)) refl
+  alike-answer =
+      rw (form, alike-accepted, by-bare (mapRule m (accepted p m u) 4) (rule-bare m (accepted p m u) 4) (reading o t .sections) (reading p u .sections) sections) refl
 
   -- judging answers the same
-  pub pads-judged : judgeAnswer m t ≡ judgeAnswer m u
+  pub alike-judged : judgeAnswer o m t ≡ judgeAnswer p m u
   unfolding judgeAnswer
-  pads-judged = rw same-answer refl
+  alike-judged = rw alike-answer refl
 
   -- loading answers the same, whatever the memory's length
-  pub pads-loaded : (room : ℕ) → loadAnswer m t room ≡ loadAnswer m u room
+  pub alike-loaded : (room : ℕ) → loadAnswer o m t room ≡ loadAnswer p m u room
   unfolding loadAnswer
-  pads-loaded room = rw same-answer refl
+  alike-loaded room = rw alike-answer refl
 
   -- and it leaves the same memory
-  pub pads-memory : (mem : List ℕ) → loadMemory m t mem ≡ loadMemory m u mem
+  pub alike-memory : (mem : List ℕ) → loadMemory o m t mem ≡ loadMemory p m u mem
   unfolding loadMemory
-  pads-memory mem = rw (pads-loaded (length mem), by-bare (storeAll m mem) (store-bare m mem) (reading t .sections) (reading u .sections) (pads-sections t u d)) refl
+  alike-memory mem = rw (alike-loaded (length mem), by-bare (storeAll m mem) (store-bare m mem) (reading o t .sections) (reading p u .sections) sections) refl
+
+-- ---- so do tables that differ in pad bytes alone
+
+module _ (o : ByteOrder) (m t u : List ℕ) (d : DifferInPads o t u) where
+  pub pads-judged : judgeAnswer o m t ≡ judgeAnswer o m u
+  pads-judged = alike-judged o o m t u (pads-form o t u d) (pads-entry o t u d) (pads-sections o t u d)
+
+  pub pads-loaded : (room : ℕ) → loadAnswer o m t room ≡ loadAnswer o m u room
+  pads-loaded = alike-loaded o o m t u (pads-form o t u d) (pads-entry o t u d) (pads-sections o t u d)
+
+  pub pads-memory : (mem : List ℕ) → loadMemory o m t mem ≡ loadMemory o m u mem
+  pads-memory = alike-memory o o m t u (pads-form o t u d) (pads-entry o t u d) (pads-sections o t u d)

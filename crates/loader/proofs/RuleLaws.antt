@@ -6,6 +6,7 @@ use Prim.Native.Nat.{ℕ, _+_, _-_, _≤_}
 use native.Mathlib.Omega.{arith}
 use lib.ListN.{length}
 use borrow.Author.Tests.{le-ltb}
+use Rattle.words.specs.declared.ByteOrder.{ByteOrder}
 use Rattle.region_map.specs.Map.{closedFrom}
 use Rattle.region_map.proofs.OpenLaws.{open-each, each-open}
 use Rattle.boot_table.specs.declared.Step.the-variants.{Section, End}
@@ -28,7 +29,7 @@ nowhere-opens m s e a c =
     open-each m (length (s .body)) (s .address) a e (k .0) (k .1)
 
 pub opens-nowhere : (m : List ℕ) (s : Sect) → Opens m s → closedFrom m (length (s .body)) (s .address) ≡ none
-opens-nowhere m s o = each-open m (length (s .body)) (s .address) (λ x l u. o x (covers-in s x l u))
+opens-nowhere m s opens = each-open m (length (s .body)) (s .address) (λ x l u. opens x (covers-in s x l u))
 
 module _ (m : List ℕ) (fine : Answer) where
   -- a section without a closed address leaves the answer to those after it; another one is refused
@@ -61,67 +62,67 @@ module _ (m : List ℕ) (fine : Answer) where
 -- ---- the map rule on a walk
 
 -- the walk begins behind the entry word
-pub rule-start : (m t : List ℕ) (fine : Answer) → 4 ≤ length t → mapRule m fine 4 (reading t .sections) ≡ mapRule m fine 4 (readOn t 4 .sections)
+pub rule-start : (o : ByteOrder) (m t : List ℕ) (fine : Answer) → 4 ≤ length t → mapRule m fine 4 (reading o t .sections) ≡ mapRule m fine 4 (readOn o t 4 .sections)
 unfolding reading
-rule-start m t fine h = simp (le-ltb (length t) 4 h)
+rule-start o m t fine h = simp (le-ltb (length t) 4 h)
 
 all-split : {P : Sect → Type 0} {s : Sect} {ss : List Sect} → All P (s ∷ ss) → P s × (All P ss)
 all-split (also p ps) = (p, ps)
 
 -- the section as data has the step's size
-size-is : (m t : List ℕ) (at : ℕ) {address size start next : ℕ} → stepAt t at ≡ Section address size start next
+size-is : (o : ByteOrder) (m t : List ℕ) (at : ℕ) {address size start next : ℕ} → stepAt o t at ≡ Section address size start next
     → closedFrom m (length (sectionAt t at address size .body)) address ≡ closedFrom m size address
-size-is m t at e = rw (length-body t at (section-of t at e))
+size-is o m t at e = rw (length-body o t at (section-of o t at e))
 
 -- and the next one stands after it
-next-is : (t : List ℕ) (at : ℕ) {address size start next : ℕ} → stepAt t at ≡ Section address size start next
+next-is : (o : ByteOrder) (t : List ℕ) (at : ℕ) {address size start next : ℕ} → stepAt o t at ≡ Section address size start next
     → nextOf at (length (sectionAt t at address size .body)) ≡ next
 unfolding nextOf
-next-is t at e = let i = section-of t at e in rw (length-body t at i) (sym (i .next-is))
+next-is o t at e = let i = section-of o t at e in rw (length-body o t at i) (sym (i .next-is))
 
-module _ (m : List ℕ) (fine : Answer) (t : List ℕ) (at : ℕ) where
-  module _ {address size start next : ℕ} (e : stepAt t at ≡ Section address size start next) where
-    pub walk-open : closedFrom m size address ≡ none → mapRule m fine at (readOn t at .sections) ≡ mapRule m fine next (readOn t next .sections)
+module _ (o : ByteOrder) (m : List ℕ) (fine : Answer) (t : List ℕ) (at : ℕ) where
+  module _ {address size start next : ℕ} (e : stepAt o t at ≡ Section address size start next) where
+    pub walk-open : closedFrom m size address ≡ none → mapRule m fine at (readOn o t at .sections) ≡ mapRule m fine next (readOn o t next .sections)
     unfolding before sectionAt
     walk-open n =
-        rw (read-section t at e) (rule-open m fine at (sectionAt t at address size) (readOn t next .sections) (size-is m t at e ∙ n))
-        ∙ ap (λ (k : ℕ). mapRule m fine k (readOn t next .sections)) (next-is t at e)
+        rw (read-section o t at e) (rule-open m fine at (sectionAt t at address size) (readOn o t next .sections) (size-is o m t at e ∙ n))
+        ∙ ap (λ (k : ℕ). mapRule m fine k (readOn o t next .sections)) (next-is o t at e)
 
-    pub walk-closed : (a : ℕ) → closedFrom m size address ≡ some a → mapRule m fine at (readOn t at .sections) ≡ notOpen at a
+    pub walk-closed : (a : ℕ) → closedFrom m size address ≡ some a → mapRule m fine at (readOn o t at .sections) ≡ notOpen at a
     unfolding before sectionAt
-    walk-closed a n = rw (read-section t at e) (rule-closed m fine at a (sectionAt t at address size) (readOn t next .sections) (size-is m t at e ∙ n))
+    walk-closed a n = rw (read-section o t at e) (rule-closed m fine at a (sectionAt t at address size) (readOn o t next .sections) (size-is o m t at e ∙ n))
 
-  pub walk-end : stepAt t at ≡ End → mapRule m fine at (readOn t at .sections) ≡ fine
+  pub walk-end : stepAt o t at ≡ End → mapRule m fine at (readOn o t at .sections) ≡ fine
   unfolding mapRule
-  walk-end e = rw (read-end t at e)
+  walk-end e = rw (read-end o t at e)
 
 -- ---- a walk that passes a section
 
-module _ (t : List ℕ) (w : Walk) {address size start next : ℕ} (e : stepAt t (w .offset) ≡ Section address size start next) where
+module _ (o : ByteOrder) (t : List ℕ) (w : Walk) {address size start next : ℕ} (e : stepAt o t (w .offset) ≡ Section address size start next) where
   pub count-on : Counted t w → Counted t (record { offset = next; sections = w .sections + 1; bytes = w .bytes + size })
   count-on c =
-      let i = section-of t (w .offset) e in
+      let i = section-of o t (w .offset) e in
       record { within = i .within; few = omega (arith, c .few, i .next-is); small = omega (arith, c .small, i .next-is) }
 
   -- the section is open, and s is a stretch from then on
-  pub pass-on : (m : List ℕ) (r s : Stretch) → Passed m t w r → closedFrom m size address ≡ none → Open m s
-      → Passed m t (record { offset = next; sections = w .sections + 1; bytes = w .bytes + size }) s
-  pass-on m r s p n o =
+  pub pass-on : (m : List ℕ) (r s : Stretch) → Passed o m t w r → closedFrom m size address ≡ none → Open m s
+      → Passed o m t (record { offset = next; sections = w .sections + 1; bytes = w .bytes + size }) s
+  pass-on m r s p n opened =
       record {
-        form = p .form ∙ form-section t (w .sections) (w .bytes) (w .offset) e;
-        rule = p .rule ∙ walk-open m (accepted m t) t (w .offset) e n;
-        is = o;
+        form = p .form ∙ form-section o t (w .sections) (w .bytes) (w .offset) e;
+        rule = p .rule ∙ walk-open o m (accepted o m t) t (w .offset) e n;
+        is = opened;
       }
 
   -- the section lies in the stretch
-  pub pass-in : (m : List ℕ) (s : Stretch) → s .from ≤ address → address + size ≤ s .until → Passed m t w s
-      → Passed m t (record { offset = next; sections = w .sections + 1; bytes = w .bytes + size }) s
+  pub pass-in : (m : List ℕ) (s : Stretch) → s .from ≤ address → address + size ≤ s .until → Passed o m t w s
+      → Passed o m t (record { offset = next; sections = w .sections + 1; bytes = w .bytes + size }) s
   pass-in m s l u p = pass-on m s s p (each-open m size address (λ x v k. p .is .opens x (omega arith) (omega arith))) (p .is)
 
 -- where every section from an offset on is open, so is the one that stands there, and those after it
-pub opens-next : (m t : List ℕ) (at : ℕ) {address size start next : ℕ} → stepAt t at ≡ Section address size start next
-    → All (Opens m) (readOn t at .sections) → (closedFrom m size address ≡ none) × (All (Opens m) (readOn t next .sections))
+pub opens-next : (o : ByteOrder) (m t : List ℕ) (at : ℕ) {address size start next : ℕ} → stepAt o t at ≡ Section address size start next
+    → All (Opens m) (readOn o t at .sections) → (closedFrom m size address ≡ none) × (All (Opens m) (readOn o t next .sections))
 unfolding before sectionAt
-opens-next m t at {address} {size} {start} {next} e o =
-    let q = all-split (rw (read-section t at e) at o) in
-    (sym (size-is m t at e) ∙ opens-nowhere m (sectionAt t at address size) (q .0), q .1)
+opens-next o m t at {address} {size} {start} {next} e opens =
+    let q = all-split (rw (read-section o t at e) at opens) in
+    (sym (size-is o m t at e) ∙ opens-nowhere m (sectionAt t at address size) (q .0), q .1)

@@ -9,6 +9,7 @@ use native.Mathlib.Omega.{arith}
 use native.Mathlib.Nat.{add-zero, add-suc, suc-add, add-sub-cancel-left}
 use lib.ListN.{length, getD, set, take, drop, length-set, length-take, length-drop, take-append-drop}
 use lib.Seq.{getD-set-same, getD-set-other, length-take-le, drop-drop, sets, sets-eq}
+use Rattle.words.specs.declared.ByteOrder.{ByteOrder}
 use Rattle.words.specs.Choice.{if}
 use Rattle.words.specs.Run.{over}
 use Rattle.words.proofs.ChoiceLaws.{both-ways}
@@ -94,21 +95,21 @@ store-more m mem body z a d n l e =
 pub lent-body : (t : List ℕ) (start size : ℕ) → take (start + size - start) (drop start t) ≡ take size (drop start t)
 lent-body t start size = rw add-sub-cancel-left
 
-pub lent-length : (t : List ℕ) (at : ℕ) {address size start next : ℕ} → IsSection t at address size start next
+pub lent-length : (o : ByteOrder) (t : List ℕ) (at : ℕ) {address size start next : ℕ} → IsSection o t at address size start next
     → length (take (start + size - start) (drop start t)) ≡ size
-lent-length t at {address} {size} {start} {next} i = ap length (lent-body t start size ∙ sym (body-is t at i)) ∙ length-body t at i
+lent-length o t at {address} {size} {start} {next} i = ap length (lent-body t start size ∙ sym (body-is o t at i)) ∙ length-body o t at i
 
-module _ (m mem t : List ℕ) (at : ℕ) where
-  pub walk-store : {address size start next : ℕ} → stepAt t at ≡ Section address size start next
-      → storeAll m mem (readOn t at .sections) ≡ storeAll m (storeBytes m mem address (take size (drop start t))) (readOn t next .sections)
+module _ (o : ByteOrder) (m mem t : List ℕ) (at : ℕ) where
+  pub walk-store : {address size start next : ℕ} → stepAt o t at ≡ Section address size start next
+      → storeAll m mem (readOn o t at .sections) ≡ storeAll m (storeBytes m mem address (take size (drop start t))) (readOn o t next .sections)
   unfolding storeAll before sectionAt
   walk-store {address} {size} {start} {next} e =
-      rw (read-section t at e)
-      (ap (λ (b : List ℕ). storeAll m (storeBytes m mem address b) (readOn t next .sections)) (body-is t at (section-of t at e)))
+      rw (read-section o t at e)
+      (ap (λ (b : List ℕ). storeAll m (storeBytes m mem address b) (readOn o t next .sections)) (body-is o t at (section-of o t at e)))
 
-  pub walk-stored : stepAt t at ≡ End → storeAll m mem (readOn t at .sections) ≡ mem
+  pub walk-stored : stepAt o t at ≡ End → storeAll m mem (readOn o t at .sections) ≡ mem
   unfolding storeAll
-  walk-stored e = rw (read-end t at e)
+  walk-stored e = rw (read-end o t at e)
 
 -- ---- which byte stands at a place
 

@@ -1,9 +1,10 @@
--- What the functions of judging ensure, by name: stretches of open addresses, and what a walk has passed. m is a map, t a table.
+-- What the functions of judging ensure, by name: stretches of open addresses, and what a walk has passed. m is a map, t a table, o its byte order.
 use Prim.Native.Nat.{ℕ, _≤_, _<_}
 use mathlib.Core.Path.{_≡_}
 use mathlib.Core.List.{List}
 use mathlib.Core.Bool.{true, false}
 use lib.ListN.{length}
+use Rattle.words.specs.declared.ByteOrder.{ByteOrder}
 use Rattle.region_map.specs.Map.{count, reserved, anyHolds, isOpen}
 use Rattle.boot_table.specs.Table.{reading, readOn}
 use Rattle.boot_table.specs.Form.{formOf}
@@ -52,14 +53,14 @@ pub record Counted (t : List ℕ) (w : Walk) : Type 0 where
   pub small : w .bytes ≤ w .offset
 
 -- what a walk has passed is open; what is read on decides the form, and then the map rule
-pub record Passed (m t : List ℕ) (w : Walk) (s : Stretch) : Type 0 where
-  pub form : formOf t ≡ tally (w .sections) (w .bytes) (readOn t (w .offset))
-  pub rule : mapRule m (accepted m t) 4 (reading t .sections) ≡ mapRule m (accepted m t) (w .offset) (readOn t (w .offset) .sections)
+pub record Passed (o : ByteOrder) (m t : List ℕ) (w : Walk) (s : Stretch) : Type 0 where
+  pub form : formOf o t ≡ tally (w .sections) (w .bytes) (readOn o t (w .offset))
+  pub rule : mapRule m (accepted o m t) 4 (reading o t .sections) ≡ mapRule m (accepted o m t) (w .offset) (readOn o t (w .offset) .sections)
   pub is : Open m s
 
 -- a walk went on from w to r over sections that lie in the stretch s; so where w had passed open sections alone, under a
 -- map that opens s, so has r
-pub record WalkedOn (t : List ℕ) (w : Walk) (s : Stretch) (r : Walk) : Type 0 where
+pub record WalkedOn (o : ByteOrder) (t : List ℕ) (w : Walk) (s : Stretch) (r : Walk) : Type 0 where
   pub far : w .offset ≤ r .offset
   pub counted : Counted t r
-  pub passed : (m : List ℕ) → Passed m t w s → Passed m t r s
+  pub passed : (m : List ℕ) → Passed o m t w s → Passed o m t r s

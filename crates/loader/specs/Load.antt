@@ -1,4 +1,4 @@
--- What judging and loading answer, and what loading leaves in memory. m is a map, t a table, mem memory.
+-- What judging and loading answer, and what loading leaves in memory. m is a map, t a table, o its byte order, mem memory.
 use Prim.Native.Nat.{ℕ}
 use mathlib.Core.List.{List, [], _∷_}
 use mathlib.Core.Path.{_≡_}
@@ -6,6 +6,7 @@ use mathlib.Core.Bool.{true, false, not}
 use mathlib.Core.Option.{Option, none, some}
 use lib.ListN.{length}
 use lib.Dec.{eqb}
+use Rattle.words.specs.declared.ByteOrder.{ByteOrder}
 use Rattle.words.specs.Choice.{if}
 use Rattle.words.specs.Refusal.{MEMORY-LENGTH, NOT-OPEN}
 use Rattle.region_map.specs.Map.{SoundMap, mapAnswer, memorySize, isOpen, closedFrom}
@@ -27,15 +28,15 @@ notOpen place address =
     record { number = NOT-OPEN; place = place; address = address; entry = 0; entry_open = false; sections = 0; bytes = 0 }
 
 -- the answer for an accepted table
-unfoldable pub accepted : List ℕ → List ℕ → Answer
-accepted m t = record {
+unfoldable pub accepted : ByteOrder → List ℕ → List ℕ → Answer
+accepted o m t = record {
   number = 0;
   place = 0;
   address = 0;
-  entry = entryOf t;
-  entry_open = isOpen m (entryOf t);
-  sections = length (reading t .sections);
-  bytes = total (reading t .sections);
+  entry = entryOf o t;
+  entry_open = isOpen m (entryOf o t);
+  sections = length (reading o t .sections);
+  bytes = total (reading o t .sections);
 }
 
 -- a section at offset at, by its lowest address that is not open: refused, or as the later ones are
@@ -50,36 +51,36 @@ mapRule m fine at (s ∷ ss) =
     onClosed at (mapRule m fine (nextOf at (length (s .body))) ss) (closedFrom m (length (s .body)) (s .address))
 
 -- a fault of the table's form goes before a later answer
-unfoldable pub formFirst : List ℕ → Answer → Answer
-formFirst t later = if (not (eqb (formOf t .number) 0)) (refused (formOf t .number) (formOf t .place)) later
+unfoldable pub formFirst : ByteOrder → List ℕ → Answer → Answer
+formFirst o t later = if (not (eqb (formOf o t .number) 0)) (refused (formOf o t .number) (formOf o t .place)) later
 
 -- the answer for a table under a sound map: its form, and then the map rule
-unfoldable pub tableAnswer : List ℕ → List ℕ → Answer
-tableAnswer m t = formFirst t (mapRule m (accepted m t) 4 (reading t .sections))
+unfoldable pub tableAnswer : ByteOrder → List ℕ → List ℕ → Answer
+tableAnswer o m t = formFirst o t (mapRule m (accepted o m t) 4 (reading o t .sections))
 
 -- a fault of the map goes before a later answer
 abbrev pub mapFirst : List ℕ → Answer → Answer
 mapFirst m later = if (not (eqb (mapAnswer m .number) 0)) (refused (mapAnswer m .number) (mapAnswer m .place)) later
 
 -- what judging answers: the map, and then the table
-unfoldable pub judgeAnswer : List ℕ → List ℕ → Answer
-judgeAnswer m t = mapFirst m (tableAnswer m t)
+unfoldable pub judgeAnswer : ByteOrder → List ℕ → List ℕ → Answer
+judgeAnswer o m t = mapFirst m (tableAnswer o m t)
 
 -- what loading answers, of memory with so many bytes: the map, the memory, and then the table
-unfoldable pub loadAnswer : List ℕ → List ℕ → ℕ → Answer
-loadAnswer m t room = mapFirst m (if (not (eqb room (memorySize m))) (refused MEMORY-LENGTH 0) (tableAnswer m t))
+unfoldable pub loadAnswer : ByteOrder → List ℕ → List ℕ → ℕ → Answer
+loadAnswer o m t room = mapFirst m (if (not (eqb room (memorySize m))) (refused MEMORY-LENGTH 0) (tableAnswer o m t))
 
 -- what loading leaves in memory: the sections stored in table order, or what was lent
-unfoldable pub loadMemory : List ℕ → List ℕ → List ℕ → List ℕ
-loadMemory m t mem = if (eqb (loadAnswer m t (length mem) .number) 0) (storeAll m mem (reading t .sections)) mem
+unfoldable pub loadMemory : ByteOrder → List ℕ → List ℕ → List ℕ → List ℕ
+loadMemory o m t mem = if (eqb (loadAnswer o m t (length mem) .number) 0) (storeAll m mem (reading o t .sections)) mem
 
 -- every address that a section covers is open
 abbrev pub Opens : List ℕ → Sect → Type 0
 Opens m s = (a : ℕ) → covers s a ≡ true → isOpen m a ≡ true
 
 -- when a table is accepted: a sound map, memory of its size, the form, and the map rule
-pub record Accepted (m t : List ℕ) (room : ℕ) : Type 0 where
+pub record Accepted (o : ByteOrder) (m t : List ℕ) (room : ℕ) : Type 0 where
   pub sound : SoundMap m
   pub size : room ≡ memorySize m
-  pub form : WellFormed t
-  pub opens : All (Opens m) (reading t .sections)
+  pub form : WellFormed o t
+  pub opens : All (Opens m) (reading o t .sections)

@@ -14,6 +14,7 @@ use boot_table::step_at;
 use region_map::is_open;
 use region_map::permitted_until;
 use region_map::reserved_from;
+use words::ByteOrder;
 use words::lower;
 use words::refusal::NOT_OPEN;
 use words::refusal::TABLE_CUT;
@@ -92,10 +93,10 @@ fn not_open(place: usize, address: u32) -> Answer
 }
 
 // The answer for a table: a fault of its form, or else a later one.
-fn form_first(table: &[u8], later: Answer) -> Answer
-    ensures { λ r. ⌜ r ≡ formFirst (now (table .entry)) later ⌝ }
+fn form_first(table: &[u8], order: ByteOrder, later: Answer) -> Answer
+    ensures { λ r. ⌜ r ≡ formFirst order (now (table .entry)) later ⌝ }
 {
-    let form = form_of(table);
+    let form = form_of(table, order);
     if form.number != 0 {
         return refused(form.number, form.place);
     }
@@ -103,11 +104,11 @@ fn form_first(table: &[u8], later: Answer) -> Answer
 }
 
 // The answer for an accepted table with so many sections and data bytes.
-fn accepted(map: &[u8], table: &[u8], sections: usize, bytes: usize) -> Answer
-    requires { ⌜ formOf (now table) ≡ formed sections bytes ⌝ }
-    ensures { λ r. ⌜ r ≡ accepted (now (map .entry)) (now (table .entry)) ⌝ }
+fn accepted(map: &[u8], table: &[u8], order: ByteOrder, sections: usize, bytes: usize) -> Answer
+    requires { ⌜ formOf order (now table) ≡ formed sections bytes ⌝ }
+    ensures { λ r. ⌜ r ≡ accepted order (now (map .entry)) (now (table .entry)) ⌝ }
 {
-    let entry = entry_of(table);
+    let entry = entry_of(table, order);
     Answer {
         number: 0,
         place: 0,
@@ -130,13 +131,13 @@ struct Walk {
 
 // Walks on over the sections that lie in a stretch, up to another section, the end or a fault. It does not look at the
 // map: the search through the map stays out of this loop, which then runs in registers.
-fn walk_on(table: &[u8], walk: Walk, stretch: Stretch) -> Walk
+fn walk_on(table: &[u8], order: ByteOrder, walk: Walk, stretch: Stretch) -> Walk
     requires { ⌜ Counted (now table) walk ⌝ }
-    ensures { λ r. ⌜ WalkedOn (now (table .entry)) walk stretch r ⌝ }
+    ensures { λ r. ⌜ WalkedOn order (now (table .entry)) walk stretch r ⌝ }
 {
     let mut on = walk;
     loop {
-        let step = step_at(table, on.offset);
+        let step = step_at(table, order, on.offset);
         let Step::Section {
             address,
             size,
@@ -160,8 +161,8 @@ fn walk_on(table: &[u8], walk: Walk, stretch: Stretch) -> Walk
 
 // Judges a table under a map, from stretch to stretch. Where an address is not open, a fault of the form that stands
 // after it goes first. Each turn passes the section that the walk stopped at, now that the stretch holds it.
-pub fn judge_table(map: &[u8], table: &[u8]) -> Answer
-    ensures { λ r. ⌜ r ≡ tableAnswer (now (map .entry)) (now (table .entry)) ⌝ }
+pub fn judge_table(map: &[u8], table: &[u8], order: ByteOrder) -> Answer
+    ensures { λ r. ⌜ r ≡ tableAnswer order (now (map .entry)) (now (table .entry)) ⌝ }
 {
     if TABLE_LIMIT < table.len() {
         return refused(TABLE_LONG, 0);
@@ -180,8 +181,8 @@ pub fn judge_table(map: &[u8], table: &[u8]) -> Answer
         clear: 0,
     };
     loop {
-        walk = walk_on(table, walk, known);
-        let step = step_at(table, walk.offset);
+        walk = walk_on(table, order, walk, known);
+        let step = step_at(table, order, walk.offset);
         let Step::Section {
             address,
             size,
@@ -190,14 +191,14 @@ pub fn judge_table(map: &[u8], table: &[u8]) -> Answer
         } = step
         else {
             let Step::Fault { number, place } = step else {
-                return accepted(map, table, walk.sections, walk.bytes);
+                return accepted(map, table, order, walk.sections, walk.bytes);
             };
             return refused(number, place);
         };
         let end = address as u64 + size as u64;
         known = stretch_to(map, known, address as u64, end);
         if known.until < end {
-            return form_first(table, not_open(walk.offset, known.until as u32));
+            return form_first(table, order, not_open(walk.offset, known.until as u32));
         }
         walk.offset = next;
         walk.sections += 1;

@@ -5,6 +5,7 @@ ghost use Rattle.loader.specs.Load.{refused, judgeAnswer, loadAnswer, lo
 use judging::judge_table;
 use region_map::judge_map;
 use storing::store_sections;
+use words::ByteOrder;
 use words::refusal::MEMORY_LENGTH;
 
 mod judging;
@@ -37,20 +38,20 @@ fn refused(number: u32, place: usize) -> Answer
 }
 
 // Judges a map and a table, and stores nothing.
-pub fn judge(map: &[u8], table: &[u8]) -> Answer
-    ensures { λ r. ⌜ r ≡ judgeAnswer (now (map .entry)) (now (table .entry)) ⌝ }
+pub fn judge(map: &[u8], table: &[u8], order: ByteOrder) -> Answer
+    ensures { λ r. ⌜ r ≡ judgeAnswer order (now (map .entry)) (now (table .entry)) ⌝ }
 {
     let regions = judge_map(map);
     if regions.number != 0 {
         return refused(regions.number, regions.place);
     }
-    judge_table(map, table)
+    judge_table(map, table, order)
 }
 
 // Loads a table into memory under a map. Nothing is stored before all of it is judged.
-pub fn load(map: &[u8], table: &[u8], memory: &mut [u8]) -> Answer
-    ensures { λ r. ⌜ r ≡ loadAnswer (now (map .entry)) (now (table .entry)) (length (now (memory .entry))) ⌝ }
-    ensures { λ _. ⌜ now (memory .exit) ≡ loadMemory (now (map .entry)) (now (table .entry)) (now (memory .entry)) ⌝ }
+pub fn load(map: &[u8], table: &[u8], order: ByteOrder, memory: &mut [u8]) -> Answer
+    ensures { λ r. ⌜ r ≡ loadAnswer order (now (map .entry)) (now (table .entry)) (length (now (memory .entry))) ⌝ }
+    ensures { λ _. ⌜ now (memory .exit) ≡ loadMemory order (now (map .entry)) (now (table .entry)) (now (memory .entry)) ⌝ }
 {
     let regions = judge_map(map);
     if regions.number != 0 {
@@ -59,10 +60,10 @@ pub fn load(map: &[u8], table: &[u8], memory: &mut [u8]) -> Answer
     if memory.len() != regions.bytes {
         return refused(MEMORY_LENGTH, 0);
     }
-    let answer = judge_table(map, table);
+    let answer = judge_table(map, table, order);
     if answer.number != 0 {
         return answer;
     }
-    store_sections(map, table, memory);
+    store_sections(map, table, order, memory);
     answer
 }

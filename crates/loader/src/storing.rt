@@ -14,6 +14,7 @@ use boot_table::Step;
 use boot_table::whole_step;
 use region_map::Region;
 use region_map::region_of;
+use words::ByteOrder;
 use words::copy;
 use words::lower;
 
@@ -63,10 +64,10 @@ fn store_section(map: &[u8], memory: &mut [u8], known: Region, address: u32, bod
 }
 
 // Stores the sections of a table that was accepted, in table order.
-pub fn store_sections(map: &[u8], table: &[u8], memory: &mut [u8])
+pub fn store_sections(map: &[u8], table: &[u8], order: ByteOrder, memory: &mut [u8])
     requires { ⌜ SoundMap (now map) × (length (now memory) ≡ memorySize (now map)) ⌝ }
-    requires { ⌜ tableAnswer (now map) (now table) .number ≡ 0 ⌝ }
-    ensures { λ _. ⌜ now (memory .exit) ≡ storeAll (now (map .entry)) (now (memory .entry)) (reading (now (table .entry)) .sections) ⌝ }
+    requires { ⌜ tableAnswer order (now map) (now table) .number ≡ 0 ⌝ }
+    ensures { λ _. ⌜ now (memory .exit) ≡ storeAll (now (map .entry)) (now (memory .entry)) (reading order (now (table .entry)) .sections) ⌝ }
 {
     let mut at: usize = 4;
     let mut region = Region {
@@ -75,7 +76,7 @@ pub fn store_sections(map: &[u8], table: &[u8], memory: &mut [u8])
         place: 0,
     };
     loop {
-        let step = whole_step(table, at);
+        let step = whole_step(table, order, at);
         let Step::Section {
             address,
             size,

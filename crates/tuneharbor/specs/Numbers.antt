@@ -3,6 +3,8 @@ use Prim.Native.Nat.{ℕ}
 use mathlib.Core.List.{List, [], _∷_}
 use mathlib.Core.Bool.{Bool, true, false}
 use mir.Val.{boolByte}
+use Rattle.words.specs.declared.ByteOrder.{ByteOrder}
+use Rattle.words.specs.declared.ByteOrder.the-variants.{HighFirst, LowFirst}
 use Rattle.region_map.specs.declared.MapAnswer.{MapAnswer}
 use Rattle.loader.specs.declared.Answer.{Answer}
 use Rattle.joiner.specs.declared.Joined.{Joined}
@@ -28,7 +30,12 @@ joinNumbers r = r .number ∷ r .place ∷ r .which ∷ r .length ∷ r .section
 unfoldable pub configNumbers : Configured → List ℕ
 configNumbers r = r .number ∷ r .place ∷ r .entries ∷ r .bits ∷ []
 
--- the manner of a flag
+-- the byte order that the flag low_first asks for
+abbrev pub orderOf : Bool → ByteOrder
+orderOf true = LowFirst
+orderOf false = HighFirst
+
+-- the manner that the flag strict asks for
 abbrev pub mannerOf : Bool → Manner
 mannerOf true = Strict
 mannerOf false = Lenient

@@ -7,7 +7,7 @@ ghost use Rattle.joiner.specs.Join.{joinAnswer, joinOutput};
 ghost use Rattle.boot_config.specs.Config.{configAnswer, configValues};
 ghost use Rattle.boot_strap.specs.Strap.{numbersAs, numbersShort, nine, sameAnswer, labelAnswer};
 ghost use Rattle.tuneharbor.specs.Numbers.{mapNumbers, loadNumbers, joinNumbers, configNumbers};
-ghost use Rattle.tuneharbor.specs.Numbers.{mannerOf, sameNumbers, labelNumbers};
+ghost use Rattle.tuneharbor.specs.Numbers.{orderOf, mannerOf, sameNumbers, labelNumbers};
 use boot_config::configure;
 use boot_strap::Manner;
 use joiner::join;
@@ -15,6 +15,7 @@ use loader::Answer;
 use loader::judge;
 use loader::load;
 use region_map::judge_map;
+use words::ByteOrder;
 
 // Judges a map.
 #[no_mangle]
@@ -40,12 +41,23 @@ fn load_numbers(r: Answer) -> [u64; 7]
     ]
 }
 
+// The byte order that a flag asks for.
+fn order_of(low_first: bool) -> ByteOrder
+    ensures { λ r. ⌜ r ≡ orderOf «low_first» ⌝ }
+{
+    if low_first {
+        ByteOrder::LowFirst
+    } else {
+        ByteOrder::HighFirst
+    }
+}
+
 // Judges a map and a table.
 #[no_mangle]
-pub extern "C" fn tuneharbor_judge(map: &[u8], table: &[u8], answer: &mut [u64; 7])
-    ensures { λ _. ⌜ now (answer .exit) ≡ loadNumbers (judgeAnswer (now (map .entry)) (now (table .entry))) ⌝ }
+pub extern "C" fn tuneharbor_judge(map: &[u8], table: &[u8], low_first: bool, answer: &mut [u64; 7])
+    ensures { λ _. ⌜ now (answer .exit) ≡ loadNumbers (judgeAnswer (orderOf «low_first») (now (map .entry)) (now (table .entry))) ⌝ }
 {
-    *answer = load_numbers(judge(map, table));
+    *answer = load_numbers(judge(map, table, order_of(low_first)));
 }
 
 // Loads a table into memory under a map.
@@ -53,13 +65,14 @@ pub extern "C" fn tuneharbor_judge(map: &[u8], table: &[u8], answer: &mut [u64; 
 pub extern "C" fn tuneharbor_load(
     map: &[u8],
     table: &[u8],
+    low_first: bool,
     memory: &mut [u8],
     answer: &mut [u64; 7],
 )
-    ensures { λ _. ⌜ now (answer .exit) ≡ loadNumbers (loadAnswer (now (map .entry)) (now (table .entry)) (length (now (memory .entry)))) ⌝ }
-    ensures { λ _. ⌜ now (memory .exit) ≡ loadMemory (now (map .entry)) (now (table .entry)) (now (memory .entry)) ⌝ }
+    ensures { λ _. ⌜ now (answer .exit) ≡ loadNumbers (loadAnswer (orderOf «low_first») (now (map .entry)) (now (table .entry)) (length (now (memory .entry)))) ⌝ }
+    ensures { λ _. ⌜ now (memory .exit) ≡ loadMemory (orderOf «low_first») (now (map .entry)) (now (table .entry)) (now (memory .entry)) ⌝ }
 {
-    *answer = load_numbers(load(map, table, memory));
+    *answer = load_numbers(load(map, table, order_of(low_first), memory));
 }
 
 // Joins two tables into an output.
@@ -67,13 +80,14 @@ pub extern "C" fn tuneharbor_load(
 pub extern "C" fn tuneharbor_join(
     first: &[u8],
     second: &[u8],
+    low_first: bool,
     output: &mut [u8],
     answer: &mut [u64; 5],
 )
-    ensures { λ _. ⌜ now (answer .exit) ≡ joinNumbers (joinAnswer (now (first .entry)) (now (second .entry)) (length (now (output .entry)))) ⌝ }
-    ensures { λ _. ⌜ now (output .exit) ≡ joinOutput (now (first .entry)) (now (second .entry)) (now (output .entry)) ⌝ }
+    ensures { λ _. ⌜ now (answer .exit) ≡ joinNumbers (joinAnswer (orderOf «low_first») (now (first .entry)) (now (second .entry)) (length (now (output .entry)))) ⌝ }
+    ensures { λ _. ⌜ now (output .exit) ≡ joinOutput (orderOf «low_first») (now (first .entry)) (now (second .entry)) (now (output .entry)) ⌝ }
 {
-    let r = join(first, second, output);
+    let r = join(first, second, order_of(low_first), output);
     *answer = [
         r.number as u64,
         r.place as u64,

@@ -1,3 +1,4 @@
 pub mod ChoiceLaws
 pub mod WordLaws
+pub mod HeaderLaws
 pub mod RunLaws

@@ -1,24 +1,12 @@
 -- Laws of words and pads: what is written is read back, and what is read is written back.
-use mathlib.Core.Path.{_≡_, refl}
+use mathlib.Core.Path.{_≡_, refl, sym, _∙_}
 use mathlib.Core.List.{List, [], _∷_, _++_}
-use Prim.Native.Nat.{ℕ, zero, suc, _+_, _-_, _*_, _/_, _%_, _≤_, _<_, _^_}
+use Prim.Native.Nat.{ℕ, zero, suc, _+_, _*_, _/_, _%_, _≤_, _<_, _^_}
 use native.Mathlib.Omega.{arith}
-use native.Mathlib.Nat.{add-zero, add-assoc, mod-eq-of-lt, div-div-eq-div-mul}
+use native.Mathlib.Nat.{add-zero, mod-eq-of-lt, div-div-eq-div-mul}
 use lib.ListN.{length, getD, take, drop, length-drop}
-use lib.Seq.{getD-append-add, getD-drop}
+use lib.Seq.{getD-drop}
 use Rattle.words.specs.Word.{Bytes, wordAt, wordBytes, padCount}
-
--- a word of a list that stands behind another
-pub word-add : (p q : List ℕ) (i : ℕ) → wordAt (p ++ q) (length p + i) ≡ wordAt q i
-unfolding wordAt
-word-add p q i = simp (add-assoc, getD-append-add)
-
-pub word-seam : (p q : List ℕ) → wordAt (p ++ q) (length p) ≡ wordAt q 0
-word-seam p q = rw add-zero at (word-add p q 0)
-
-pub word-drop : (t : List ℕ) (i : ℕ) → wordAt (drop i t) 0 ≡ wordAt t i
-unfolding wordAt
-word-drop t i = simp (getD-drop, add-zero)
 
 -- a word that is written is read back
 pub word-bytes : (n : ℕ) (q : List ℕ) → n < 2 ^ 32 → wordAt (wordBytes n ++ q) 0 ≡ n
@@ -36,7 +24,7 @@ unfolding wordBytes
 length-word n = refl
 
 -- the bytes of a word that was put together from bytes
-digits : (a b c d : ℕ) → a < 256 → b < 256 → c < 256 → d < 256 → wordBytes (((a * 256 + b) * 256 + c) * 256 + d) ≡ a ∷ b ∷ c ∷ d ∷ []
+pub digits : (a b c d : ℕ) → a < 256 → b < 256 → c < 256 → d < 256 → wordBytes (((a * 256 + b) * 256 + c) * 256 + d) ≡ a ∷ b ∷ c ∷ d ∷ []
 unfolding wordBytes
 digits a b c d ha hb hc hd =
     let n : ℕ = ((a * 256 + b) * 256 + c) * 256 + d in
@@ -46,13 +34,16 @@ digits a b c d ha hb hc hd =
     let s : n % 256 ≡ d = omega arith in
     cc
 
-bytes-word-front : (t : List ℕ) → Bytes t → 4 ≤ length t → wordBytes (wordAt t 0) ≡ take 4 t
-unfolding wordAt
-bytes-word-front [] b h = absurd (omega arith)
-bytes-word-front (x ∷ []) b h = absurd (omega arith)
-bytes-word-front (x ∷ y ∷ []) b h = absurd (omega arith)
-bytes-word-front (x ∷ y ∷ z ∷ []) b h = absurd (omega arith)
-bytes-word-front (x ∷ y ∷ z ∷ w ∷ t) b h = digits x y z w (b 0) (b 1) (b 2) (b 3)
+four-front : (t : List ℕ) → 4 ≤ length t → take 4 t ≡ getD t 0 0 ∷ getD t 1 0 ∷ getD t 2 0 ∷ getD t 3 0 ∷ []
+four-front [] h = absurd (omega arith)
+four-front (x ∷ []) h = absurd (omega arith)
+four-front (x ∷ y ∷ []) h = absurd (omega arith)
+four-front (x ∷ y ∷ z ∷ []) h = absurd (omega arith)
+four-front (x ∷ y ∷ z ∷ w ∷ t) h = refl
+
+-- the four bytes that stand at an offset
+pub four-at : (t : List ℕ) (i : ℕ) → i + 4 ≤ length t → take 4 (drop i t) ≡ getD t i 0 ∷ getD t (i + 1) 0 ∷ getD t (i + 2) 0 ∷ getD t (i + 3) 0 ∷ []
+four-at t i h = four-front (drop i t) (simp length-drop (omega arith)) ∙ simp (getD-drop, add-zero)
 
 -- what is cut out of bytes, or put together from them, is bytes
 pub bytes-drop : (t : List ℕ) (i : ℕ) → Bytes t → Bytes (drop i t)
@@ -71,18 +62,12 @@ bytes-append (x ∷ s) t p q (suc i) = bytes-append s t (λ j. p (suc j)) q i
 
 -- a word that is read is written back
 pub bytes-word : (t : List ℕ) (i : ℕ) → Bytes t → i + 4 ≤ length t → wordBytes (wordAt t i) ≡ take 4 (drop i t)
-bytes-word t i b h = rw (← (word-drop t i)) (bytes-word-front (drop i t) (bytes-drop t i b) (simp length-drop (omega arith)))
+unfolding wordAt
+bytes-word t i b h = digits _ _ _ _ (b i) (b (i + 1)) (b (i + 2)) (b (i + 3)) ∙ sym (four-at t i h)
 
 pub word-lt : (t : List ℕ) (i : ℕ) → Bytes t → wordAt t i < 2 ^ 32
 unfolding wordAt
 word-lt t i b = omega (arith, b i, b (i + 1), b (i + 2), b (i + 3))
-
--- where two lists have the same four bytes they have the same word
-pub word-same : (t u : List ℕ) (i : ℕ) → ((k : ℕ) → k < 4 → getD t (i + k) 0 ≡ getD u (i + k) 0) → wordAt t i ≡ wordAt u i
-unfolding wordAt
-word-same t u i same =
-    let first : getD t i 0 ≡ getD u i 0 = rw add-zero at (same 0 (omega arith)) in
-    rw (first, same 1 (omega arith), same 2 (omega arith), same 3 (omega arith)) refl
 
 -- pads end at a multiple of four, and are fewer than four
 pub pad-lt : (n : ℕ) → padCount n < 4

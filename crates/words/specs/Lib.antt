@@ -1,4 +1,5 @@
 pub mod Choice
 pub mod Word
+pub mod Header
 pub mod Run
 pub mod Refusal

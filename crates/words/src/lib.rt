@@ -1,9 +1,10 @@
-// Words, pads and runs of bytes, with which maps and tables are read and stored, and the lower and the higher of two numbers.
+// Words, header words in either byte order, pads and runs of bytes, with which maps and tables are read and stored, and the lower and the higher of two numbers.
 ghost use mathlib.Core.List.{_++_};
 ghost use mathlib.Core.Path.{_≡_};
 ghost use Prim.Native.Nat.{_+_, _*_, _^_, _≤_, _<_, min, max};
 ghost use lib.ListN.{length, drop};
 ghost use Rattle.words.specs.Word.{wordAt, padCount};
+ghost use Rattle.words.specs.Header.{headerAt, headerBytes};
 
 pub mod refusal;
 
@@ -17,12 +18,50 @@ fn word(a: u8, b: u8, c: u8, d: u8) -> u32
     ((a as u32 * 256 + b as u32) * 256 + c as u32) * 256 + d as u32
 }
 
+// A word of four bytes, the least significant first. `word(d, c, b, a)` is the same number, but with it loading is slower.
+fn low_word(a: u8, b: u8, c: u8, d: u8) -> u32
+    ensures { λ r. ⌜ r ≡ a + b * 256 + c * 65536 + d * 16777216 ⌝ }
+{
+    a as u32 + b as u32 * 256 + c as u32 * 65_536 + d as u32 * 16_777_216
+}
+
 // The word that stands at an offset.
 pub fn word_at(bytes: &[u8], at: usize) -> u32
     requires { ⌜ at + 4 ≤ length (now bytes) ⌝ }
     ensures { λ r. ⌜ r ≡ wordAt (now (bytes .entry)) at ⌝ }
 {
     word(bytes[at], bytes[at + 1], bytes[at + 2], bytes[at + 3])
+}
+
+// The order of the bytes of a boot table's header words, which are its entry and each section's size and address.
+pub enum ByteOrder {
+    HighFirst,
+    LowFirst,
+}
+
+// The header word that stands at an offset of a table.
+pub fn header_at(table: &[u8], order: ByteOrder, at: usize) -> u32
+    requires { ⌜ at + 4 ≤ length (now table) ⌝ }
+    ensures { λ r. ⌜ r ≡ headerAt order (now (table .entry)) at ⌝ }
+{
+    match order {
+        ByteOrder::HighFirst => word_at(table, at),
+        ByteOrder::LowFirst => low_word(table[at], table[at + 1], table[at + 2], table[at + 3]),
+    }
+}
+
+// The bytes that a header word is written as.
+pub fn header_bytes(word: u32, order: ByteOrder) -> [u8; 4]
+    ensures { λ r. ⌜ r ≡ headerBytes order word ⌝ }
+{
+    let a = (word / 16_777_216 % 256) as u8;
+    let b = (word / 65_536 % 256) as u8;
+    let c = (word / 256 % 256) as u8;
+    let d = (word % 256) as u8;
+    match order {
+        ByteOrder::HighFirst => [a, b, c, d],
+        ByteOrder::LowFirst => [d, c, b, a],
+    }
 }
 
 // So many data bytes and their pads: the next multiple of four.

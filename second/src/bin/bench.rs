@@ -2,7 +2,7 @@
 //! bytes. docs/BENCHMARK.md says what is measured and how.
 
 use second::cases::{self, Numbers};
-use second::reference::{CONFIG_LIMIT, REGISTER_LIMIT, STRAP_LIMIT, TABLE_LIMIT};
+use second::reference::{ByteOrder, CONFIG_LIMIT, REGISTER_LIMIT, STRAP_LIMIT, TABLE_LIMIT};
 use second::{calls, fast};
 use std::fmt::Debug;
 use std::hint::black_box;
@@ -26,10 +26,17 @@ const HALF: usize = TABLE_LIMIT / 2;
 // Timing.
 
 /// One of the timed pieces of work, over the buffers `B`.
-type Work<'a, B> = &'a dyn Fn(&mut B);
+type Work<'a, B> = Box<dyn Fn(&mut B) + 'a>;
+
+/// Works that need the buffers in one state.
+struct Group<'a, B> {
+    /// Brings the buffers into that state; not timed.
+    before: Work<'a, B>,
+    works: Vec<Work<'a, B>>,
+}
 
 /// The time of one run of the work in nanoseconds, over `turns` runs.
-fn timed<B>(work: Work<B>, buffers: &mut B, turns: u32) -> f64 {
+fn timed<B>(work: &Work<B>, buffers: &mut B, turns: u32) -> f64 {
     let start = Instant::now();
     for _ in 0..turns {
         work(black_box(buffers));
@@ -38,7 +45,7 @@ fn timed<B>(work: Work<B>, buffers: &mut B, turns: u32) -> f64 {
 }
 
 /// How many runs of the work fill a repeat.
-fn turns<B>(work: Work<B>, buffers: &mut B) -> u32 {
+fn turns<B>(work: &Work<B>, buffers: &mut B) -> u32 {
     let mut turns = 1;
     loop {
         let took = timed(work, buffers, turns) * f64::from(turns);
@@ -49,28 +56,42 @@ fn turns<B>(work: Work<B>, buffers: &mut B) -> u32 {
     }
 }
 
-/// The best time of each work in nanoseconds: library, fast and, where there
-/// is one, memcpy. They take turns, so that a slow moment of the machine falls
-/// on all.
-fn measure<B>(buffers: &mut B, works: &[Work<B>]) -> Vec<f64> {
-    let counts: Vec<u32> = works.iter().map(|work| turns(*work, buffers)).collect();
-    let mut best = vec![f64::INFINITY; works.len()];
+/// The best time of each work of each group, in nanoseconds. They take turns,
+/// so that a slow moment of the machine falls on all. The groups have the same
+/// works, of which a later group may have fewer, and run them equally often.
+fn measure<B, const N: usize>(buffers: &mut B, groups: [Group<B>; N]) -> [Vec<f64>; N] {
+    (groups[0].before)(buffers);
+    let works = groups[0].works.iter();
+    let counts: Vec<u32> = works.map(|work| turns(work, buffers)).collect();
+    let mut best = groups
+        .each_ref()
+        .map(|group| vec![f64::INFINITY; group.works.len()]);
     let start = Instant::now();
     for repeat in 0..REPEATS {
         if repeat >= FEWEST && start.elapsed() > SLOW {
             break;
         }
-        for ((work, count), best) in works.iter().zip(&counts).zip(&mut best) {
-            *best = best.min(timed(*work, buffers, *count));
+        for (group, best) in groups.iter().zip(&mut best) {
+            (group.before)(buffers);
+            for ((work, count), best) in group.works.iter().zip(&counts).zip(best) {
+                *best = best.min(timed(work, buffers, *count));
+            }
         }
     }
     best
 }
 
+/// The best time of each work where the buffers have one state.
+fn measure_works<B>(buffers: &mut B, works: Vec<Work<B>>) -> Vec<f64> {
+    let before = Box::new(|_: &mut B| ());
+    let [times] = measure(buffers, [Group { before, works }]);
+    times
+}
+
 // The printed lines.
 
 /// What a line says of its case; a count that the call does not have is none.
-#[derive(Default)]
+#[derive(Clone, Copy, Default)]
 struct Line<'a> {
     call: &'a str,
     case: &'a str,
@@ -90,6 +111,9 @@ fn print_header() {
     println!("for configure those of the entries. records: map records.");
     println!("memcpy: copy_from_slice of as many bytes; none where the call copies nothing.");
     println!("lib/fast, lib/memcpy: the library's time over the other's.");
+    println!("Tables are high first; low: the same sections, low first; l/h: the low-first time");
+    println!("of the library and of fast divided by the high-first one. The memcpy column of a");
+    println!("low line repeats that of the line above.");
     println!();
     println!(
         "{:<11} {:<13} {:>8} {:>7} {:>9} {:>11} {:>11} {:>10} {:>8} {:>10}",
@@ -111,24 +135,61 @@ fn or_dash<T>(value: Option<T>, text: impl Fn(T) -> String) -> String {
     value.map_or("-".to_string(), text)
 }
 
-/// Prints a line with the times of library, fast and, where there is one,
-/// memcpy.
-fn print_line(line: Line, times: &[f64]) {
+/// Prints a line: what it says of its case, and the columns after that.
+fn print_columns(line: Line, columns: [String; 5]) {
     let Line { call, case, .. } = line;
     let count = |value: Option<usize>| or_dash(value, |count| count.to_string());
     let [sections, records, bytes] = [line.sections, line.records, line.bytes].map(count);
-    let (library, fast) = (times[0], times[1]);
-    let micros = |time: f64| format!("{:.3}", time / 1000.0);
-    let ratio = |time: f64| format!("{:.2}", library / time);
-    let memcpy = times.get(2).copied();
+    let [library, fast, memcpy, of_fast, of_memcpy] = columns;
     println!(
-        "{call:<11} {case:<13} {sections:>8} {records:>7} {bytes:>9} {:>11} {:>11} {:>10} {:>8} {:>10}",
-        micros(library),
-        micros(fast),
-        or_dash(memcpy, micros),
-        ratio(fast),
-        or_dash(memcpy, ratio),
+        "{call:<11} {case:<13} {sections:>8} {records:>7} {bytes:>9} {library:>11} {fast:>11} {memcpy:>10} {of_fast:>8} {of_memcpy:>10}"
     );
+}
+
+/// A time in microseconds, of a call that takes less than one with more digits.
+fn micros(time: f64) -> String {
+    let digits = if time < 1000.0 { 5 } else { 3 };
+    format!("{:.digits$}", time / 1000.0)
+}
+
+/// A time over another.
+fn over(time: f64, other: f64) -> String {
+    format!("{:.2}", time / other)
+}
+
+/// Prints a line with the times of library, fast and, where there is one,
+/// memcpy.
+fn print_line(line: Line, times: &[f64]) {
+    let (library, fast) = (times[0], times[1]);
+    let memcpy = times.get(2).copied();
+    print_columns(
+        line,
+        [
+            micros(library),
+            micros(fast),
+            or_dash(memcpy, micros),
+            over(library, fast),
+            or_dash(memcpy, |time| over(library, time)),
+        ],
+    );
+}
+
+/// Prints the lines of a call over tables: high first, low first, and the
+/// second over the first.
+fn print_orders(line: Line, times: [Vec<f64>; 2]) {
+    let [high, mut low] = times;
+    // Memcpy copies as many bytes as the data has, and is not measured again for
+    // low first.
+    low.extend(&high[2..]);
+    let named = |suffix: &str| format!("{} {suffix}", line.call);
+    print_line(line, &high);
+    let call = &named("low");
+    print_line(Line { call, ..line }, &low);
+    let call = &named("l/h");
+    let [library, fast] = [0, 1].map(|work| over(low[work], high[work]));
+    let none = || "-".to_string();
+    let columns = [library, fast, none(), none(), none()];
+    print_columns(Line { call, ..line }, columns);
 }
 
 // Maps and tables.
@@ -199,8 +260,52 @@ impl Rows {
     }
 }
 
+/// A table that is written in one order, and then in the other.
+struct Table {
+    bytes: Vec<u8>,
+    order: ByteOrder,
+}
+
+impl Table {
+    /// A table that was built high first.
+    fn new(bytes: Vec<u8>) -> Self {
+        let order = ByteOrder::HighFirst;
+        Table { bytes, order }
+    }
+
+    /// Writes the header words in an order.
+    fn write_in(&mut self, order: ByteOrder) {
+        if self.order == order {
+            return;
+        }
+        cases::turn_word(&mut self.bytes, 0);
+        let mut at = 4;
+        while at + 4 < self.bytes.len() {
+            let size = self.size(at);
+            cases::turn_word(&mut self.bytes, at);
+            cases::turn_word(&mut self.bytes, at + 4);
+            at += 8 + size.next_multiple_of(4);
+        }
+        self.order = order;
+    }
+
+    /// The bytes, of which the compiler knows nothing.
+    fn read(&self) -> &[u8] {
+        black_box(&self.bytes)
+    }
+
+    /// The size word at an offset.
+    fn size(&self, at: usize) -> usize {
+        let bytes = self.bytes[at..at + 4].try_into().expect("four bytes");
+        match self.order {
+            ByteOrder::HighFirst => u32::from_be_bytes(bytes) as usize,
+            ByteOrder::LowFirst => u32::from_le_bytes(bytes) as usize,
+        }
+    }
+}
+
 /// A table of sections of one size, one at each address, with any pads.
-fn even_table(numbers: &mut Numbers, addresses: &[u32], size: usize) -> Vec<u8> {
+fn even_table(numbers: &mut Numbers, addresses: &[u32], size: usize) -> Table {
     let padded = size.next_multiple_of(4);
     let bytes = numbers.bytes(addresses.len() * padded);
     let sections: Vec<(u32, &[u8], &[u8])> = addresses
@@ -208,12 +313,12 @@ fn even_table(numbers: &mut Numbers, addresses: &[u32], size: usize) -> Vec<u8> 
         .zip(bytes.chunks_exact(padded))
         .map(|(address, bytes)| (*address, &bytes[..size], &bytes[size..]))
         .collect();
-    cases::padded_table(BASE, &sections)
+    Table::new(cases::padded_table(BASE, &sections, ByteOrder::HighFirst))
 }
 
 /// A table of a length; its sections have one size, and the last one takes
 /// what is left.
-fn long_table(numbers: &mut Numbers, count: usize, length: usize) -> Vec<u8> {
+fn long_table(numbers: &mut Numbers, count: usize, length: usize) -> Table {
     let data = numbers.bytes(length - 8 - 8 * count);
     let size = data.len() / count / 4 * 4;
     let mut sections = Vec::with_capacity(count);
@@ -223,7 +328,7 @@ fn long_table(numbers: &mut Numbers, count: usize, length: usize) -> Vec<u8> {
         sections.push((BASE + (i * size) as u32, part));
         rest = later;
     }
-    cases::table(BASE, &sections)
+    Table::new(cases::table(BASE, &sections, ByteOrder::HighFirst))
 }
 
 /// The most sections of a size that the limit takes.
@@ -233,25 +338,33 @@ fn most(size: usize) -> usize {
 
 // Judging and loading.
 
-/// Loads and judges a table with the library and the peer, whose answers and
-/// memory must be equal. Answers the sections, the data bytes and the memory.
-fn agreed(map: &[u8], table: &[u8]) -> (usize, usize, Vec<u8>) {
-    assert!(table.len() <= TABLE_LIMIT);
+/// Loads and judges a table in each order with the library and the peer, whose
+/// answers and memory must be equal. Answers the sections, the data bytes and
+/// the memory.
+fn agreed(map: &[u8], table: &mut Table) -> (usize, usize, Vec<u8>) {
     let size = calls::map(map).bytes as usize;
-    let mut memory = vec![0x5A; size];
-    let mut other = memory.clone();
-    let answer = calls::load(map, table, &mut memory);
-    assert_eq!(answer, fast::load(map, table, &mut other));
-    assert!(memory == other, "the same memory");
-    assert_eq!(answer, calls::judge(map, table));
-    assert_eq!(answer, fast::judge(map, table));
+    let [high, low] = ByteOrder::BOTH.map(|order| {
+        table.write_in(order);
+        let table = &table.bytes;
+        assert!(table.len() <= TABLE_LIMIT);
+        let mut memory = vec![0x5A; size];
+        let mut other = memory.clone();
+        let answer = calls::load(map, table, order, &mut memory);
+        assert_eq!(answer, fast::load(map, table, order, &mut other));
+        assert!(memory == other, "the same memory");
+        assert_eq!(answer, calls::judge(map, table, order));
+        assert_eq!(answer, fast::judge(map, table, order));
+        (answer, memory)
+    });
+    assert!(high == low, "the same in each order");
+    let (answer, memory) = high;
     assert_eq!(answer.number, 0);
     (answer.sections as usize, answer.bytes as usize, memory)
 }
 
 /// The lines of a table under a map.
-fn load_and_judge(case: &str, map: &[u8], table: &[u8]) {
-    let (sections, bytes, mut memory) = agreed(map, table);
+fn load_and_judge(case: &str, map: &[u8], table: &mut Table) {
+    let (sections, bytes, memory) = agreed(map, table);
     let line = |call| Line {
         call,
         case,
@@ -259,31 +372,36 @@ fn load_and_judge(case: &str, map: &[u8], table: &[u8]) {
         records: Some(map.len() / 12),
         bytes: Some(bytes),
     };
-    let times = measure(
-        &mut memory,
-        &[
-            &|memory| {
-                black_box(calls::load(black_box(map), black_box(table), memory));
-            },
-            &|memory| {
-                black_box(fast::load(black_box(map), black_box(table), memory));
-            },
-            &|memory| memory[..bytes].copy_from_slice(&table[..bytes]),
+    type Loaded<'a> = (&'a mut Table, Vec<u8>);
+    let [mut high, low] = ByteOrder::BOTH.map(|order| Group {
+        before: Box::new(move |(table, _): &mut Loaded| table.write_in(order)),
+        works: vec![
+            Box::new(move |(table, memory)| {
+                black_box(calls::load(black_box(map), table.read(), order, memory));
+            }),
+            Box::new(move |(table, memory)| {
+                black_box(fast::load(black_box(map), table.read(), order, memory));
+            }),
         ],
-    );
-    print_line(line("load"), &times);
-    let times = measure(
-        &mut (),
-        &[
-            &|_| {
-                black_box(calls::judge(black_box(map), black_box(table)));
-            },
-            &|_| {
-                black_box(fast::judge(black_box(map), black_box(table)));
-            },
+    });
+    high.works.push(Box::new(|(table, memory)| {
+        memory[..bytes].copy_from_slice(&table.bytes[..bytes])
+    }));
+    let mut buffers = (&mut *table, memory);
+    print_orders(line("load"), measure(&mut buffers, [high, low]));
+    drop(buffers);
+    let groups = ByteOrder::BOTH.map(|order| Group {
+        before: Box::new(move |table: &mut Table| table.write_in(order)),
+        works: vec![
+            Box::new(move |table| {
+                black_box(calls::judge(black_box(map), table.read(), order));
+            }),
+            Box::new(move |table| {
+                black_box(fast::judge(black_box(map), table.read(), order));
+            }),
         ],
-    );
-    print_line(line("judge"), &times);
+    });
+    print_orders(line("judge"), measure(table, groups));
 }
 
 /// Sections one after the other, under 1 record and under 64 that touch.
@@ -294,10 +412,10 @@ fn rising(numbers: &mut Numbers, sections: usize, size: usize) {
         rows: 1,
         gap: 0,
     };
-    let table = even_table(numbers, &rows.addresses(), size);
+    let mut table = even_table(numbers, &rows.addresses(), size);
     for records in [1, 64] {
         let map = falling(touching(records, sections * size));
-        load_and_judge("rising", &map, &table);
+        load_and_judge("rising", &map, &mut table);
     }
 }
 
@@ -313,8 +431,8 @@ fn random(numbers: &mut Numbers) {
         };
         let mut addresses = rows.addresses();
         numbers.shuffle(&mut addresses);
-        let table = even_table(numbers, &addresses, 1);
-        load_and_judge(case, &falling(rows.apart()), &table);
+        let mut table = even_table(numbers, &addresses, 1);
+        load_and_judge(case, &falling(rows.apart()), &mut table);
     }
 }
 
@@ -327,8 +445,8 @@ fn reserved(numbers: &mut Numbers, sections: usize, size: usize) {
         rows: 32,
         gap: GAP,
     };
-    let table = even_table(numbers, &rows.addresses(), size);
-    load_and_judge("reserved", &falling(rows.reserved()), &table);
+    let mut table = even_table(numbers, &rows.addresses(), size);
+    load_and_judge("reserved", &falling(rows.reserved()), &mut table);
 }
 
 // The other calls.
@@ -339,15 +457,15 @@ fn map(case: &str, records: &[Record]) {
     let answer = calls::map(&map);
     assert_eq!(answer, fast::map(&map));
     assert_eq!(answer.number, 0);
-    let times = measure(
+    let times = measure_works(
         &mut (),
-        &[
-            &|_| {
+        vec![
+            Box::new(|_| {
                 black_box(calls::map(black_box(&map)));
-            },
-            &|_| {
+            }),
+            Box::new(|_| {
                 black_box(fast::map(black_box(&map)));
-            },
+            }),
         ],
     );
     let line = Line {
@@ -372,35 +490,44 @@ fn maps(numbers: &mut Numbers) {
 }
 
 fn join(numbers: &mut Numbers, count: usize) {
-    let first = long_table(numbers, count, HALF);
-    let second = long_table(numbers, count, HALF);
+    let mut tables = [(); 2].map(|()| long_table(numbers, count, HALF));
     // The data bytes of one table.
     let bytes = HALF - 8 - 8 * count;
-    let mut output = vec![0x5A; first.len() + second.len() - 8];
+    let mut output = vec![0x5A; 2 * HALF - 8];
 
-    let answer = calls::join(&first, &second, &mut output);
-    let mut other = vec![0xA5; output.len()];
-    assert_eq!(answer, fast::join(&first, &second, &mut other));
-    assert!(output == other, "the same output");
-    assert_eq!((answer.number, answer.sections), (0, 2 * count as u64));
-    drop(other);
+    for order in ByteOrder::BOTH {
+        let [first, second] = tables.each_mut().map(|table| {
+            table.write_in(order);
+            table.read()
+        });
+        let answer = calls::join(first, second, order, &mut output);
+        let mut other = vec![0xA5; output.len()];
+        assert_eq!(answer, fast::join(first, second, order, &mut other));
+        assert!(output == other, "the same output");
+        assert_eq!((answer.number, answer.sections), (0, 2 * count as u64));
+    }
 
-    let times = measure(
-        &mut output,
-        &[
-            &|output| {
-                black_box(calls::join(black_box(&first), black_box(&second), output));
-            },
-            &|output| {
-                black_box(fast::join(black_box(&first), black_box(&second), output));
-            },
-            &|output| {
-                let (left, right) = output[..2 * bytes].split_at_mut(bytes);
-                left.copy_from_slice(&first[..bytes]);
-                right.copy_from_slice(&second[..bytes]);
-            },
+    type Joined = ([Table; 2], Vec<u8>);
+    let [mut high, low] = ByteOrder::BOTH.map(|order| Group {
+        before: Box::new(move |(tables, _): &mut Joined| {
+            for table in tables {
+                table.write_in(order);
+            }
+        }),
+        works: vec![
+            Box::new(move |([first, second], output)| {
+                black_box(calls::join(first.read(), second.read(), order, output));
+            }),
+            Box::new(move |([first, second], output)| {
+                black_box(fast::join(first.read(), second.read(), order, output));
+            }),
         ],
-    );
+    });
+    high.works.push(Box::new(|([first, second], output)| {
+        let (left, right) = output[..2 * bytes].split_at_mut(bytes);
+        left.copy_from_slice(&first.bytes[..bytes]);
+        right.copy_from_slice(&second.bytes[..bytes]);
+    }));
     let line = Line {
         call: "join",
         case: "rising",
@@ -408,7 +535,7 @@ fn join(numbers: &mut Numbers, count: usize) {
         bytes: Some(2 * bytes),
         ..Default::default()
     };
-    print_line(line, &times);
+    print_orders(line, measure(&mut (tables, output), [high, low]));
 }
 
 fn configure(numbers: &mut Numbers) {
@@ -434,16 +561,16 @@ fn configure(numbers: &mut Numbers) {
 
     // The work is the same whatever the values are.
     let copied = vec![0x5A; bytes];
-    let times = measure(
+    let times = measure_works(
         &mut (values, copied),
-        &[
-            &|(values, _)| {
+        vec![
+            Box::new(|(values, _)| {
                 black_box(calls::configure(black_box(&table), &addresses, values));
-            },
-            &|(values, _)| {
+            }),
+            Box::new(|(values, _)| {
                 black_box(fast::configure(black_box(&table), &addresses, values));
-            },
-            &|(_, copied)| copied.copy_from_slice(&table[..bytes]),
+            }),
+            Box::new(|(_, copied)| copied.copy_from_slice(&table[..bytes])),
         ],
     );
     let line = Line {
@@ -469,19 +596,19 @@ fn strap<I: Copy, A: Debug + PartialEq>(
     for input in inputs {
         assert_eq!(library(*input), peer(*input));
     }
-    let times = measure(
+    let times = measure_works(
         &mut (),
-        &[
-            &|_| {
+        vec![
+            Box::new(|_| {
                 for input in inputs {
                     black_box(library(black_box(*input)));
                 }
-            },
-            &|_| {
+            }),
+            Box::new(|_| {
                 for input in inputs {
                     black_box(peer(black_box(*input)));
                 }
-            },
+            }),
         ],
     );
     let line = Line {

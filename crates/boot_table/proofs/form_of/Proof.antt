@@ -5,6 +5,7 @@ use mathlib.Core.List.{List}
 use native.Mathlib.Omega.{arith}
 use borrow.Author.Needs.{needs}
 use lib.ListN.{length}
+use Rattle.words.specs.declared.ByteOrder.{ByteOrder}
 use Rattle.boot_table.specs.declared.Step.the-variants.{Section}
 use Rattle.boot_table.specs.Table.{stepAt, readOn}
 use Rattle.boot_table.specs.Form.{formOf}
@@ -15,32 +16,32 @@ use Rattle.boot_table.proofs.form_of.Statement.{statement}
 use Rattle.boot_table.proofs.form_of.Tie as tie
 
 -- k sections with b data bytes stand before at, and what is read on decides the form
-record Passed (t : List ℕ) (at k b : ℕ) : Type 0 where
+record Passed (o : ByteOrder) (t : List ℕ) (at k b : ℕ) : Type 0 where
   within : at ≤ length t
   few : k ≤ at
   small : b ≤ at
-  form : formOf t ≡ tally k b (readOn t at)
+  form : formOf o t ≡ tally k b (readOn o t at)
 
 abbrev Inv-loop : tie.InvT-loop
-Inv-loop table at₀ sections₀ bytes₀ at sections bytes = Passed table at sections bytes
+Inv-loop table order at₀ sections₀ bytes₀ at sections bytes = Passed order table at sections bytes
 
 abbrev μ-loop : tie.MeasureT-loop
-μ-loop table at₀ sections₀ bytes₀ at sections bytes = length table - at
+μ-loop table order at₀ sections₀ bytes₀ at sections bytes = length table - at
 
 misformed-requires : tie.Need-misformed-requires Inv-loop μ-loop
 misformed-requires c κs = search needs
 
 returns : tie.Need-returns Inv-loop μ-loop
-returns c = c .misformed .ensures ∙ sym (form-long _ (omega arith))
+returns c = c .misformed .ensures ∙ sym (form-long _ _ (omega arith))
 
 misformed-requires-2 : tie.Need-misformed-requires-2 Inv-loop μ-loop
 misformed-requires-2 c κs = search needs
 
 returns-2 : tie.Need-returns-2 Inv-loop μ-loop
-returns-2 c = c .misformed2 .ensures ∙ sym (form-cut _ (omega arith) (omega arith))
+returns-2 c = c .misformed2 .ensures ∙ sym (form-cut _ _ (omega arith) (omega arith))
 
 loop-holds : tie.Need-loop-holds Inv-loop μ-loop
-loop-holds c = record { within = omega arith; few = omega arith; small = omega arith; form = form-start _ (omega arith) (omega arith) }
+loop-holds c = record { within = omega arith; few = omega arith; small = omega arith; form = form-start _ _ (omega arith) (omega arith) }
 
 step-at-requires : tie.Need-step-at-requires Inv-loop μ-loop
 step-at-requires c κs = search needs
@@ -55,7 +56,7 @@ returns-3 : tie.Need-returns-3 Inv-loop μ-loop
 returns-3 c =
     let l = c .before .before .before in
     let s = c .before .before .step-at in
-    sym (l .loop .inv .form ∙ form-end _ _ _ _ (sym (s .ensures) ∙ end-left (s .result) (c .before .match .keys2) (c .match2 .keys2)))
+    sym (l .loop .inv .form ∙ form-end _ _ _ _ _ (sym (s .ensures) ∙ end-left (s .result) (c .before .match .keys2) (c .match2 .keys2)))
 
 misformed-requires-3 : tie.Need-misformed-requires-3 Inv-loop μ-loop
 misformed-requires-3 c κs = search needs
@@ -63,10 +64,11 @@ misformed-requires-3 c κs = search needs
 returns-4 : tie.Need-returns-4 Inv-loop μ-loop
 returns-4 c =
     let s = c .before .before .before .before .before in
-    c .misformed3 .ensures ∙ sym (s .before .loop .inv .form ∙ form-fault _ _ _ _ (sym (s .step-at .ensures) ∙ c .before .before .step2 .given .1))
+    c .misformed3 .ensures ∙ sym (s .before .loop .inv .form ∙ form-fault _ _ _ _ _ (sym (s .step-at .ensures) ∙ c .before .before .step2 .given .1))
 
 -- a turn that finds a section
-step-is : (c : tie.After-known-told Inv-loop μ-loop) → stepAt (c .before .before .before .before .before .before .before .before .args .table .now) (c .before .before .before .before .loop .at)
+step-is : (c : tie.After-known-told Inv-loop μ-loop) → let a = c .before .before .before .before .before .before .before .before .args in
+    stepAt (a .order) (a .table .now) (c .before .before .before .before .loop .at)
     ≡ Section (c .before .step .given .0 .0) (c .before .step .given .0 .1 .0) (c .before .step .given .0 .1 .1 .0) (c .before .step .given .0 .1 .1 .1 .0)
 step-is c = sym (c .before .before .before .step-at .ensures) ∙ c .before .step .given .1
 
@@ -74,16 +76,16 @@ add-sections : tie.Need-add-sections Inv-loop μ-loop
 add-sections c = omega arith
 
 add-bytes : tie.Need-add-bytes Inv-loop μ-loop
-add-bytes c = omega (arith, section-of _ _ (step-is c))
+add-bytes c = omega (arith, section-of _ _ _ (step-is c))
 
 loop-less : tie.Need-loop-less Inv-loop μ-loop
-loop-less c = omega (arith, section-of _ _ (step-is c))
+loop-less c = omega (arith, section-of _ _ _ (step-is c))
 
 loop-again : tie.Need-loop-again Inv-loop μ-loop
 loop-again c =
     let l = c .before .before .before .before in
-    let i = section-of _ _ (step-is c) in
-    record { within = i .within; few = omega arith; small = omega arith; form = l .loop .inv .form ∙ form-section _ _ _ _ (step-is c) }
+    let i = section-of _ _ _ (step-is c) in
+    record { within = i .within; few = omega arith; small = omega arith; form = l .loop .inv .form ∙ form-section _ _ _ _ _ (step-is c) }
 
 pub form-of-spec : {M : Type 1} → statement M
 form-of-spec =

@@ -4,6 +4,7 @@ use mathlib.Core.Path.{_≡_, refl, sym, ap, _∙_}
 use mathlib.Core.List.{List}
 use native.Mathlib.Omega.{arith}
 use lib.ListN.{length}
+use Rattle.words.specs.declared.ByteOrder.{ByteOrder}
 use Rattle.boot_table.specs.declared.Form.{Form}
 use Rattle.boot_table.specs.Form.{tableLimit, formOf, WellFormed}
 use Rattle.boot_table.proofs.FormLaws.{form-well, well-long, well-few, well-form}
@@ -22,8 +23,8 @@ refused-requires c κs = search needs
 returns : tie.Need-returns
 returns c =
     let f = c .before .before .before .form-of in
-    let e = first-refused _ _ _ _ (f .ensures) (c .before .if1 .taken) in
-    (c .refused .ensures ∙ e, output-kept _ _ _ _ e (c .before .if1 .taken))
+    let e = first-refused _ _ _ _ _ (f .ensures) (c .before .if1 .taken) in
+    (c .refused .ensures ∙ e, output-kept _ _ _ _ _ e (c .before .if1 .taken))
 
 form-of-requires-2 : tie.Need-form-of-requires-2
 form-of-requires-2 c κs = search needs
@@ -35,23 +36,23 @@ returns-2 : tie.Need-returns-2
 returns-2 c =
     let g = c .before .before .before .form-of2 in
     let k = c .before .before .before .before in
-    let e = second-refused _ _ _ _ (k .before .before .form-of .ensures) (k .if1 .left) _ (g .ensures) (c .before .if2 .taken) in
-    (c .refused2 .ensures ∙ e, output-kept _ _ _ _ e (c .before .if2 .taken))
+    let e = second-refused _ _ _ _ _ (k .before .before .form-of .ensures) (k .if1 .left) _ (g .ensures) (c .before .if2 .taken) in
+    (c .refused2 .ensures ∙ e, output-kept _ _ _ _ _ e (c .before .if2 .taken))
 
 add-size : tie.Need-add-size
 add-size c = search needs
 
 -- both tables are well-formed
-first-well : (c : tie.Else2) → WellFormed (c .before .before .before .before .before .before .before .before .before .args .first .now)
+first-well : (c : tie.Else2) → let a = c .before .before .before .before .before .before .before .before .before .args in WellFormed (a .order) (a .first .now)
 first-well c =
     let k = c .before .before .before in
-    form-well _ (ap (λ (f : Form). f .number) (sym (k .before .before .form-of .ensures)) ∙ k .if1 .left)
+    form-well _ _ (ap (λ (f : Form). f .number) (sym (k .before .before .form-of .ensures)) ∙ k .if1 .left)
 
-second-well : (c : tie.Else2) → WellFormed (c .before .before .before .before .before .before .before .before .before .args .second .now)
-second-well c = form-well _ (ap (λ (f : Form). f .number) (sym (c .before .before .form-of2 .ensures)) ∙ c .if2 .left)
+second-well : (c : tie.Else2) → let a = c .before .before .before .before .before .before .before .before .before .args in WellFormed (a .order) (a .second .now)
+second-well c = form-well _ _ (ap (λ (f : Form). f .number) (sym (c .before .before .form-of2 .ensures)) ∙ c .if2 .left)
 
 sub-size : tie.Need-sub-size
-sub-size c = omega (arith, well-long _ (first-well c))
+sub-size c = omega (arith, well-long _ _ (first-well c))
 
 refused-requires-3 : tie.Need-refused-requires-3
 refused-requires-3 c κs = search needs
@@ -63,10 +64,10 @@ returns-3 c =
     let s = k .before .before .before .before .before .before .before .before .before in
     let f = k .before .before .before .before .before .form-of in
     let g = k .before .before .form-of2 in
-    let e = join-long (s .args .first .now) (s .args .second .now) (length (s .args .output .now))
+    let e = join-long _ (s .args .first .now) (s .args .second .now) (length (s .args .output .now))
     _ (f .ensures) (k .before .before .before .if1 .left) _ (g .ensures) (k .if2 .left)
     (omega (arith, c .before .if3 .taken)) in
-    (c .refused3 .ensures ∙ e, output-kept _ _ _ _ e (λ z. omega arith))
+    (c .refused3 .ensures ∙ e, output-kept _ _ _ _ _ e (λ z. omega arith))
 
 refused-requires-4 : tie.Need-refused-requires-4
 refused-requires-4 c κs = search needs
@@ -78,21 +79,21 @@ returns-4 c =
     let s = k .before .before .before .before .before .before .before .before .before in
     let f = k .before .before .before .before .before .form-of in
     let g = k .before .before .form-of2 in
-    let e = output-short (s .args .first .now) (s .args .second .now) (length (s .args .output .now))
+    let e = output-short _ (s .args .first .now) (s .args .second .now) (length (s .args .output .now))
     _ (f .ensures) (k .before .before .before .if1 .left) _ (g .ensures) (k .if2 .left)
     (omega (arith, c .before .before .if3 .left)) (omega (arith, c .before .if4 .taken)) in
-    (c .refused4 .ensures ∙ e, output-kept _ _ _ _ e (λ z. omega arith))
+    (c .refused4 .ensures ∙ e, output-kept _ _ _ _ _ e (λ z. omega arith))
 
 -- a form counts no more sections and data bytes than a table has bytes
-few : (t : List ℕ) (f : Form) → f ≡ formOf t → WellFormed t → f .sections + f .bytes ≤ tableLimit
-few t f e w = rw (e ∙ well-form t w) (omega (arith, well-few t w, w .short))
+few : (o : ByteOrder) (t : List ℕ) (f : Form) → f ≡ formOf o t → WellFormed o t → f .sections + f .bytes ≤ tableLimit
+few o t f e w = rw (e ∙ well-form o t w) (omega (arith, well-few o t w, w .short))
 
 add-sections : tie.Need-add-sections
 add-sections c =
     let k = c .before .before .before .before in
     let f = k .before .before .before .before .before .form-of in
     let g = k .before .before .form-of2 in
-    omega (arith, few _ _ (f .ensures) (first-well k), few _ _ (g .ensures) (second-well k))
+    omega (arith, few _ _ _ (f .ensures) (first-well k), few _ _ _ (g .ensures) (second-well k))
 
 write-join-requires : tie.Need-write-join-requires
 unfolding joinedLength
@@ -112,10 +113,10 @@ returns-5 c =
     let s = k .before .before .before .before .before .before .before .before .before in
     let f = k .before .before .before .before .before .form-of in
     let g = k .before .before .form-of2 in
-    let e = join-done (s .args .first .now) (s .args .second .now) (length (s .args .output .now))
+    let e = join-done _ (s .args .first .now) (s .args .second .now) (length (s .args .output .now))
     _ (f .ensures) (k .before .before .before .if1 .left) _ (g .ensures) (k .if2 .left)
     (omega (arith, r .before .if3 .left)) (omega (arith, r .if4 .left)) in
-    (e, w .write-join .ensures ∙ output-joined _ _ _ _ e refl)
+    (e, w .write-join .ensures ∙ output-joined _ _ _ _ _ e refl)
 
 pub join-spec : {M : Type 1} → statement M
 join-spec =

@@ -11,13 +11,13 @@ slice-reshare-prefix-load : tie.Need-slice-reshare-prefix-load
 slice-reshare-prefix-load c =
     let j = c .before .before .join in
     let a = c .before .before .before .before .before .before .before .before .before .before .args in
-    part-within (a .first .now) (a .second .now) (a .output .now) (j .result) (j .last .1 .1 .0) (j .ensures .0) (j .kept .1 .1 .0)
+    part-within (a .order) (a .first .now) (a .second .now) (a .output .now) (j .result) (j .last .1 .1 .1 .0) (j .ensures .0) (j .kept .1 .1 .1 .0)
 
 slice-aggregate-load : tie.Need-slice-aggregate-load
 slice-aggregate-load c =
     let j = c .before .before .before .join in
     let a = c .before .before .before .before .before .before .before .before .before .before .before .args in
-    part-length (a .first .now) (a .second .now) (a .output .now) (j .result) (j .last .1 .1 .0) (j .ensures .0) (j .kept .1 .1 .0)
+    part-length (a .order) (a .first .now) (a .second .now) (a .output .now) (j .result) (j .last .1 .1 .1 .0) (j .ensures .0) (j .kept .1 .1 .1 .0)
 
 load-requires : tie.Need-load-requires
 load-requires c κs = search needs
@@ -46,9 +46,9 @@ returns c =
     let j = k .before .before .before .before .before .join in
     let known = k .before .before .before .before .before .before .before .before .before .before in
     let a = known .before .before .before .args in
-    turn-calls (a .map .now) (a .first .now) (a .second .now) (a .output .now) (a .join-memory .now) (a .turn-memory .now)
+    turn-calls (a .order) (a .map .now) (a .first .now) (a .second .now) (a .output .now) (a .join-memory .now) (a .turn-memory .now)
     (λ i. known .before .shared-slice-known2 .given i .fits) (λ i. known .shared-slice-known3 .given i .fits)
-    (j .result) (j .last .1 .1 .0) (w .result) (f .result) (g .result) (w .last .1 .1 .0) (f .last .1 .1 .0) (g .last .1 .1 .0)
+    (j .result) (j .last .1 .1 .1 .0) (w .result) (f .result) (g .result) (w .last .1 .1 .1 .0) (f .last .1 .1 .1 .0) (g .last .1 .1 .1 .0)
     (j .ensures .0) (j .ensures .1) (w .ensures .0) (w .ensures .1) (f .ensures .0) (f .ensures .1) (g .ensures .0) (g .ensures .1)
 
 pub join-and-load-spec : {M : Type 1} → statement M

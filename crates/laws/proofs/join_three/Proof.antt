@@ -11,13 +11,13 @@ slice-reshare-prefix-join : tie.Need-slice-reshare-prefix-join
 slice-reshare-prefix-join c =
     let j = c .before .before .join in
     let a = c .before .before .before .before .before .before .before .before .before .before .before .args in
-    part-within (a .first .now) (a .second .now) (a .ab .now) (j .result) (j .last .1 .1 .0) (j .ensures .0) (j .kept .1 .1 .0)
+    part-within (a .order) (a .first .now) (a .second .now) (a .ab .now) (j .result) (j .last .1 .1 .1 .0) (j .ensures .0) (j .kept .1 .1 .1 .0)
 
 slice-aggregate-join : tie.Need-slice-aggregate-join
 slice-aggregate-join c =
     let j = c .before .before .before .join in
     let a = c .before .before .before .before .before .before .before .before .before .before .before .before .args in
-    part-length (a .first .now) (a .second .now) (a .ab .now) (j .result) (j .last .1 .1 .0) (j .ensures .0) (j .kept .1 .1 .0)
+    part-length (a .order) (a .first .now) (a .second .now) (a .ab .now) (j .result) (j .last .1 .1 .1 .0) (j .ensures .0) (j .kept .1 .1 .1 .0)
 
 join-requires-2 : tie.Need-join-requires-2
 join-requires-2 c κs = search needs
@@ -31,7 +31,7 @@ slice-reshare-prefix-join-2 c =
     let j = k .join3 in
     let x = k .before .before .before .before .before .before .before .before .before in
     let a = x .before .before .before .before .before .before .before .before .before .args in
-    part-within (a .second .now) (a .third .now) (a .bc .now) (j .result) (j .last .1 .1 .0) (j .ensures .0) (j .kept .1 .1 .0)
+    part-within (a .order) (a .second .now) (a .third .now) (a .bc .now) (j .result) (j .last .1 .1 .1 .0) (j .ensures .0) (j .kept .1 .1 .1 .0)
 
 slice-aggregate-join-2 : tie.Need-slice-aggregate-join-2
 slice-aggregate-join-2 c =
@@ -39,7 +39,7 @@ slice-aggregate-join-2 c =
     let j = k .join3 in
     let x = k .before .before .before .before .before .before .before .before .before in
     let a = x .before .before .before .before .before .before .before .before .before .args in
-    part-length (a .second .now) (a .third .now) (a .bc .now) (j .result) (j .last .1 .1 .0) (j .ensures .0) (j .kept .1 .1 .0)
+    part-length (a .order) (a .second .now) (a .third .now) (a .bc .now) (j .result) (j .last .1 .1 .1 .0) (j .ensures .0) (j .kept .1 .1 .1 .0)
 
 join-requires-4 : tie.Need-join-requires-4
 join-requires-4 c κs = search needs
@@ -65,10 +65,10 @@ returns c =
     let x = k .before .before .before .before .before .join in
     let known = k .before .before .before .before .before .before .before .before .before .before .before in
     let a = known .before .before .before .args in
-    three-calls (a .first .now) (a .second .now) (a .third .now) (a .ab .now) (a .left .now) (a .bc .now) (a .right .now)
+    three-calls (a .order) (a .first .now) (a .second .now) (a .third .now) (a .ab .now) (a .left .now) (a .bc .now) (a .right .now)
     (λ i. known .before .before .shared-slice-known .given i .fits) (λ i. known .before .shared-slice-known2 .given i .fits)
     (λ i. known .shared-slice-known3 .given i .fits)
-    (x .result) (l .result) (y .result) (r .result) (x .last .1 .1 .0) (l .last .1 .1 .0) (y .last .1 .1 .0) (r .last .1 .1 .0)
+    (x .result) (l .result) (y .result) (r .result) (x .last .1 .1 .1 .0) (l .last .1 .1 .1 .0) (y .last .1 .1 .1 .0) (r .last .1 .1 .1 .0)
     (x .ensures .0) (x .ensures .1) (l .ensures .0) (l .ensures .1) (y .ensures .0) (y .ensures .1) (r .ensures .0) (r .ensures .1)
 
 pub join-three-spec : {M : Type 1} → statement M

@@ -22,9 +22,9 @@ returns c =
     let q = c .before .before .load2 in
     let known = c .before .before .before .before .before .before .before .before .before .before .before in
     let a = known .before .before .args in
-    swap-calls (a .map .now) (a .original .now) (a .swapped .now) (a .original-memory .now) (a .swapped-memory .now)
+    swap-calls (a .order) (a .map .now) (a .original .now) (a .swapped .now) (a .original-memory .now) (a .swapped-memory .now)
     (λ i. known .shared-slice-known2 .given i .fits)
-    (p .result) (q .result) (p .last .1 .1 .0) (q .last .1 .1 .0) (p .ensures .0) (p .ensures .1) (q .ensures .0) (q .ensures .1)
+    (p .result) (q .result) (p .last .1 .1 .1 .0) (q .last .1 .1 .1 .0) (p .ensures .0) (p .ensures .1) (q .ensures .0) (q .ensures .1)
 
 pub load-swapped-spec : {M : Type 1} → statement M
 load-swapped-spec =

@@ -17,7 +17,7 @@ use Rattle.listing.proofs.list.Tie as tie
 returns : tie.Need-returns
 returns c =
     let s = c .before .before .before .before in
-    list-none (s .args .table .now) (s .args .buffer .now) (omega (arith, bound-long (s .args .table .now) (omega arith)))
+    list-none _ (s .args .table .now) (s .args .buffer .now) (omega (arith, bound-long (s .args .table .now) (omega arith)))
 
 slice-aggregate-put : tie.Need-slice-aggregate-put
 slice-aggregate-put c = search needs
@@ -33,7 +33,7 @@ returns-2 c =
     let k = c .before .before in
     let s = k .before .before .before .before .before .before .before in
     let t = s .args .table .now in
-    list-put t (s .args .buffer .now) (omega (arith, bound-long t (omega arith))) _ _ (rw (text-long t (omega arith)) (k .put .ensures))
+    list-put _ t (s .args .buffer .now) (omega (arith, bound-long t (omega arith))) _ _ (rw (text-long _ t (omega arith)) (k .put .ensures))
 
 mul-if3 : tie.Need-mul-if3
 mul-if3 c = search needs
@@ -44,7 +44,7 @@ add-if3 c = search needs
 returns-3 : tie.Need-returns-3
 returns-3 c =
     let s = c .before .before .before .before in
-    list-none (s .args .table .now) (s .args .buffer .now) (omega (arith, bound-within (s .args .table .now) (omega arith)))
+    list-none _ (s .args .table .now) (s .args .buffer .now) (omega (arith, bound-within (s .args .table .now) (omega arith)))
 
 form-of-requires : tie.Need-form-of-requires
 form-of-requires c κs = search needs
@@ -56,7 +56,7 @@ put-refused-requires : tie.Need-put-refused-requires
 put-refused-requires c κs =
     let k = c .before .before .before .before in
     let s = k .before .before .before .before .before in
-    rw length-refused (omega (arith, refused-few (s .args .table .now) (omega arith) (k .form-of .result) (k .form-of .ensures)))
+    rw length-refused (omega (arith, refused-few _ (s .args .table .now) (omega arith) (k .form-of .result) (k .form-of .ensures)))
 
 same-length-2 : tie.Need-same-length-2
 same-length-2 c = search needs
@@ -68,8 +68,8 @@ returns-4 c =
     let m = i .before .before in
     let s = m .before .before .before .before .before in
     let t = s .args .table .now in
-    list-put t (s .args .buffer .now) (omega (arith, bound-within t (omega arith))) _ _
-    (rw (text-refused t (omega arith) (m .form-of .result) (m .form-of .ensures) (i .if4 .taken)) (k .put-refused .ensures))
+    list-put _ t (s .args .buffer .now) (omega (arith, bound-within t (omega arith))) _ _
+    (rw (text-refused _ t (omega arith) (m .form-of .result) (m .form-of .ensures) (i .if4 .taken)) (k .put-refused .ensures))
 
 -- a table that is listed: it is within the limit and well-formed, and the buffer has room for its text, line by line
 module _ (c : tie.Else4) where
@@ -82,17 +82,17 @@ module _ (c : tie.Else4) where
   short : length (given .args .table .now) ≤ listLimit
   short = omega arith
 
-  well : WellFormed (given .args .table .now)
-  well = listed-well (given .args .table .now) short form (c .before .before .form-of .ensures) (c .if4 .left)
+  well : WellFormed (given .args .order) (given .args .table .now)
+  well = listed-well _ (given .args .table .now) short form (c .before .before .form-of .ensures) (c .if4 .left)
 
-  room : 21 + length (sectionLines (reading (given .args .table .now) .sections)) + length (decimalText (form .sections)) + length (decimalText (form .bytes)) ≤ length (given .args .buffer .now)
-  room = omega (arith, listed-room (given .args .table .now) short form (c .before .before .form-of .ensures) (c .if4 .left))
+  room : 21 + length (sectionLines (reading (given .args .order) (given .args .table .now) .sections)) + length (decimalText (form .sections)) + length (decimalText (form .bytes)) ≤ length (given .args .buffer .now)
+  room = omega (arith, listed-room _ (given .args .table .now) short form (c .before .before .form-of .ensures) (c .if4 .left))
 
   enough : textBound (given .args .table .now) ≤ length (given .args .buffer .now)
   enough = omega (arith, bound-within (given .args .table .now) short)
 
 entry-of-requires : tie.Need-entry-of-requires
-entry-of-requires c κs = omega (arith, well-long _ (well (c .before)))
+entry-of-requires c κs = omega (arith, well-long _ _ (well (c .before)))
 
 put-entry-requires : tie.Need-put-entry-requires
 put-entry-requires c κs = omega (arith, length-entry (c .entry-of .result), room (c .before .before))
@@ -117,13 +117,14 @@ returns-5 c =
     let k1 = k2 .before .before .before .before in
     let a = k1 .before in
     let i = a .before .before in
+    let o = given i .args .order in
     let t = given i .args .table .now in
     let d = given i .args .buffer .now in
-    let e = text-listed t (short i) (form i) (i .before .before .form-of .ensures) (i .if4 .left) in
-    list-put t d (enough i) (k3 .put-end .result) (k3 .put-end .last .0) (rw e
-    (put-three d 0 (entryLine (entryOf t)) (sectionLines (reading t .sections)) (endLine (form i .sections) (form i .bytes))
-    (k1 .put-entry .last .0) (k2 .put-sections .last .1 .0) (k3 .put-end .last .0) (k1 .put-entry .result) (k2 .put-sections .result) (k3 .put-end .result)
-    (rw (← e) (omega (arith, text-bound t, enough i))) (rw (a .entry-of .ensures) at (k1 .put-entry .ensures)) (k2 .put-sections .ensures) (k3 .put-end .ensures)))
+    let e = text-listed o t (short i) (form i) (i .before .before .form-of .ensures) (i .if4 .left) in
+    list-put o t d (enough i) (k3 .put-end .result) (k3 .put-end .last .0) (rw e
+    (put-three d 0 (entryLine (entryOf o t)) (sectionLines (reading o t .sections)) (endLine (form i .sections) (form i .bytes))
+    (k1 .put-entry .last .0) (k2 .put-sections .last .1 .1 .0) (k3 .put-end .last .0) (k1 .put-entry .result) (k2 .put-sections .result) (k3 .put-end .result)
+    (rw (← e) (omega (arith, text-bound o t, enough i))) (rw (a .entry-of .ensures) at (k1 .put-entry .ensures)) (k2 .put-sections .ensures) (k3 .put-end .ensures)))
 
 pub list-spec : {M : Type 1} → statement M
 list-spec =

@@ -5,6 +5,7 @@ use mathlib.Core.List.{List}
 use native.Mathlib.Omega.{arith}
 use borrow.Author.Needs.{needs}
 use lib.ListN.{length, length-append}
+use Rattle.words.specs.declared.ByteOrder.{ByteOrder}
 use Rattle.words.specs.Run.{over}
 use Rattle.words.proofs.RunLaws.{over-none, over-over}
 use Rattle.boot_table.specs.declared.Step.the-variants.{Section}
@@ -18,22 +19,22 @@ use Rattle.listing.proofs.put_sections.Statement.{statement}
 use Rattle.listing.proofs.put_sections.Tie as tie
 
 -- the table is whole from at on, and the lines before at are written up to offset to
-record Listed (t d : List ℕ) (from : ℕ) (out : List ℕ) (at to : ℕ) : Type 0 where
-  whole : readOn t at .fault ≡ 0
+record Listed (o : ByteOrder) (t d : List ℕ) (from : ℕ) (out : List ℕ) (at to : ℕ) : Type 0 where
+  whole : readOn o t at .fault ≡ 0
   same : length out ≡ length d
-  place : from + length (sectionLines (reading t .sections)) ≡ to + length (sectionLines (readOn t at .sections))
-  rest : over d from (sectionLines (reading t .sections)) ≡ over out to (sectionLines (readOn t at .sections))
+  place : from + length (sectionLines (reading o t .sections)) ≡ to + length (sectionLines (readOn o t at .sections))
+  rest : over d from (sectionLines (reading o t .sections)) ≡ over out to (sectionLines (readOn o t at .sections))
 
 abbrev Inv-loop : tie.InvT-loop
-Inv-loop table buffer₀ from at₀ to₀ buffer at to = Listed table buffer₀ from buffer at to
+Inv-loop table order buffer₀ from at₀ to₀ buffer at to = Listed order table buffer₀ from buffer at to
 
 abbrev μ-loop : tie.MeasureT-loop
-μ-loop table buffer₀ from at₀ to₀ buffer at to = length table - at
+μ-loop table order buffer₀ from at₀ to₀ buffer at to = length table - at
 
 loop-holds : tie.Need-loop-holds Inv-loop μ-loop
 loop-holds c =
     let s = c .before .before in
-    let w = well-read (s .args .table .now) (s .pre .0) in
+    let w = well-read _ (s .args .table .now) (s .pre .0) in
     record {
       whole = w .1;
       same = refl;
@@ -55,11 +56,12 @@ returns c =
     let l = c .before .before in
     let s = c .before .step-at in
     let t = l .before .before .before .args .table .now in
-    let e = lines-end t (l .loop .at) (read-else _ _ (s .result) (s .ensures) (c .match .keys2) (l .loop .inv .whole)) in
+    let e = lines-end _ t (l .loop .at) (read-else _ _ _ (s .result) (s .ensures) (c .match .keys2) (l .loop .inv .whole)) in
     (omega (arith, ap length e), sym (l .loop .inv .rest ∙ ap (over (l .loop .buffer) (l .loop .to)) e ∙ over-none _ _))
 
 -- a turn that finds a section
-step-is : (c : tie.After-known-told Inv-loop μ-loop) → stepAt (c .before .before .before .before .before .before .before .args .table .now) (c .before .before .before .before .loop .at)
+step-is : (c : tie.After-known-told Inv-loop μ-loop) → let a = c .before .before .before .before .before .before .before .args in
+    stepAt (a .order) (a .table .now) (c .before .before .before .before .loop .at)
     ≡ Section (c .before .step .given .0 .0) (c .before .step .given .0 .1 .0) (c .before .step .given .0 .1 .1 .0) (c .before .step .given .0 .1 .1 .1 .0)
 step-is c = sym (c .before .before .before .step-at .ensures) ∙ c .before .step .given .1
 
@@ -67,10 +69,10 @@ put-section-requires : tie.Need-put-section-requires Inv-loop μ-loop
 put-section-requires c κs =
     let k = c .before in
     let l = k .before .before .before .before in
-    omega (arith, l .before .before .before .pre, simp length-append at (ap length (lines-section _ _ (step-is k))))
+    omega (arith, l .before .before .before .pre, simp length-append at (ap length (lines-section _ _ _ (step-is k))))
 
 loop-less : tie.Need-loop-less Inv-loop μ-loop
-loop-less c = omega (arith, section-of _ _ (step-is (c .before .before .before .before)))
+loop-less c = omega (arith, section-of _ _ _ (step-is (c .before .before .before .before)))
 
 loop-again : tie.Need-loop-again Inv-loop μ-loop
 loop-again c =
@@ -78,17 +80,17 @@ loop-again c =
     let l = k .before .before .before .before in
     let s = l .before .before .before in
     let g = k .before .step .given .0 in
-    let e = lines-section (s .args .table .now) (l .loop .at) (step-is k) in
+    let e = lines-section _ (s .args .table .now) (l .loop .at) (step-is k) in
     let n = simp length-append at (ap length e) in
-    let more = sectionLines (readOn (s .args .table .now) (g .1 .1 .1 .0) .sections) in
+    let more = sectionLines (readOn (s .args .order) (s .args .table .now) (g .1 .1 .1 .0) .sections) in
     let put = c .before .before .put-section in
     record {
-      whole = read-next _ _ (step-is k) (l .loop .inv .whole);
+      whole = read-next _ _ _ (step-is k) (l .loop .inv .whole);
       same = put .kept .0 ∙ l .loop .inv .same;
       place = omega (arith, n);
       rest = l .loop .inv .rest ∙ ap (over (l .loop .buffer) (l .loop .to)) e
           ∙ sym (over-over (l .loop .buffer) (l .loop .to) (sectionLine (g .0) (g .1 .0)) (omega (arith, s .pre, n)) more (put .result) (put .ensures .0))
-          ∙ ap (λ (o : List ℕ). over o (put .result) more) (sym (put .ensures .1));
+          ∙ ap (λ (x : List ℕ). over x (put .result) more) (sym (put .ensures .1));
     }
 
 pub put-sections-spec : {M : Type 1} → statement M

@@ -12,13 +12,13 @@ refused-requires : tie.Need-refused-requires
 refused-requires c κs = search needs
 
 returns : tie.Need-returns
-returns c = c .refused .ensures ∙ map-refused _ _ _ (c .before .before .before .judge-map .ensures) (c .before .if1 .taken)
+returns c = c .refused .ensures ∙ map-refused _ _ _ _ (c .before .before .before .judge-map .ensures) (c .before .if1 .taken)
 
 judge-table-requires : tie.Need-judge-table-requires
 judge-table-requires c κs = search needs
 
 returns-2 : tie.Need-returns-2
-returns-2 c = c .judge-table .ensures ∙ map-judged _ _ _ (c .before .before .before .judge-map .ensures) (c .before .if1 .left)
+returns-2 c = c .judge-table .ensures ∙ map-judged _ _ _ _ (c .before .before .before .judge-map .ensures) (c .before .if1 .left)
 
 pub judge-spec : {M : Type 1} → statement M
 judge-spec =

@@ -20,8 +20,8 @@ refused-requires c κs = search needs
 returns : tie.Need-returns
 returns c =
     let j = c .before .before .before .judge-map in
-    let e = load-refused _ _ _ _ (j .ensures) (c .before .if1 .taken) in
-    (c .refused .ensures ∙ e, memory-kept _ _ _ _ e (c .before .if1 .taken))
+    let e = load-refused _ _ _ _ _ (j .ensures) (c .before .if1 .taken) in
+    (c .refused .ensures ∙ e, memory-kept _ _ _ _ _ e (c .before .if1 .taken))
 
 refused-requires-2 : tie.Need-refused-requires-2
 refused-requires-2 c κs = search needs
@@ -32,25 +32,24 @@ returns-2 c =
     let j = c .before .before .before .before .before .judge-map in
     let z = c .before .before .before .if1 .left in
     let b = answer-bytes (a .map .now) (j .result) (j .ensures) z in
-    let e = load-sized (a .map .now) (a .table .now) (length (a .memory .now)) (j .result) (j .ensures) z (λ r. omega (arith, b, c .before .if2 .taken)) in
-    (c .refused2 .ensures ∙ e, memory-kept _ _ _ _ e (λ r. omega arith))
+    let e = load-sized _ (a .map .now) (a .table .now) (length (a .memory .now)) (j .result) (j .ensures) z (λ r. omega (arith, b, c .before .if2 .taken)) in
+    (c .refused2 .ensures ∙ e, memory-kept _ _ _ _ _ e (λ r. omega arith))
 
 judge-table-requires : tie.Need-judge-table-requires
 judge-table-requires c κs = search needs
 
 -- a table that is judged under a sound map, with memory of its size
-judged : (c : tie.After-judge-table) → c .judge-table .result
-    ≡ loadAnswer (c .before .before .before .before .before .before .before .before .before .args .map .now) (c .before .before .before .before .before .before .before .before .before .args .table .now)
-    (length (c .before .before .before .before .before .before .before .before .before .args .memory .now))
+judged : (c : tie.After-judge-table) → let a = c .before .before .before .before .before .before .before .before .before .args in
+    c .judge-table .result ≡ loadAnswer (a .order) (a .map .now) (a .table .now) (length (a .memory .now))
 judged c =
     let j = c .before .before .before .before .before .judge-map in
     let z = c .before .before .before .if1 .left in
-    c .judge-table .ensures ∙ load-judged _ _ _ _ (j .ensures) z (omega (arith, c .before .if2 .left, answer-bytes _ _ (j .ensures) z))
+    c .judge-table .ensures ∙ load-judged _ _ _ _ _ (j .ensures) z (omega (arith, c .before .if2 .left, answer-bytes _ _ (j .ensures) z))
 
 returns-3 : tie.Need-returns-3
 returns-3 c =
     let e = judged (c .before .before) in
-    (e, memory-kept _ _ _ _ e (λ r. omega (arith, c .if3 .taken)))
+    (e, memory-kept _ _ _ _ _ e (λ r. omega (arith, c .if3 .taken)))
 
 store-sections-requires : tie.Need-store-sections-requires
 store-sections-requires c κs =
@@ -67,7 +66,7 @@ same-length c = search needs
 returns-4 : tie.Need-returns-4
 returns-4 c =
     let e = judged (c .before .before .before .before .before .before) in
-    (e, c .before .before .store-sections .ensures ∙ memory-stored _ _ _ _ e (c .before .before .before .before .if3 .left))
+    (e, c .before .before .store-sections .ensures ∙ memory-stored _ _ _ _ _ e (c .before .before .before .before .if3 .left))
 
 pub load-spec : {M : Type 1} → statement M
 load-spec =

@@ -13,10 +13,10 @@ refused-requires : tie.Need-refused-requires
 refused-requires c κs = search needs
 
 returns : tie.Need-returns
-returns c = c .refused .ensures ∙ first-refused _ _ _ (c .before .before .before .form-of .ensures) (λ z. omega (arith, c .before .if1 .taken))
+returns c = c .refused .ensures ∙ first-refused _ _ _ _ (c .before .before .before .form-of .ensures) (λ z. omega (arith, c .before .if1 .taken))
 
 returns-2 : tie.Need-returns-2
-returns-2 c = first-later _ _ _ (c .before .before .form-of .ensures) (c .if1 .left)
+returns-2 c = first-later _ _ _ _ (c .before .before .form-of .ensures) (c .if1 .left)
 
 pub form-first-spec : {M : Type 1} → statement M
 form-first-spec = tie.close (tie.spec form-of-requires refused-requires returns returns-2)

@@ -1,11 +1,11 @@
--- `lister::main`: the text is no longer than the buffer that it was written into.
+-- `list_input::list_input`: the text is no longer than the buffer that it was written into.
 use mathlib.Core.Path.{sym}
 use native.Mathlib.Omega.{arith}
 use lib.Seq.{length-take-le}
 use Rattle.listing.proofs.ListingLaws.{list-within}
 use borrow.Author.Needs.{needs}
-use Rattle.lister.proofs.main.Statement.{statement}
-use Rattle.lister.proofs.main.Tie as tie
+use Rattle.list_input.proofs.list_input.Statement.{statement}
+use Rattle.list_input.proofs.list_input.Tie as tie
 
 input-space-requires : tie.Need-input-space-requires
 input-space-requires c κs = search needs
@@ -32,10 +32,10 @@ list-requires : tie.Need-list-requires
 list-requires c κs = search needs
 
 array-share-prefix-output : tie.Need-array-share-prefix-output
-array-share-prefix-output c = omega (arith, list-within _ _ _ (c .before .list .ensures .0))
+array-share-prefix-output c = omega (arith, list-within _ _ _ _ (c .before .list .ensures .0))
 
 slice-aggregate-write-all : tie.Need-slice-aggregate-write-all
-slice-aggregate-write-all c = sym (length-take-le _ _ (omega (arith, list-within _ _ _ (c .before .before .list .ensures .0))))
+slice-aggregate-write-all c = sym (length-take-le _ _ (omega (arith, list-within _ _ _ _ (c .before .before .list .ensures .0))))
 
 write-all-requires : tie.Need-write-all-requires
 write-all-requires c κs = search needs
@@ -43,8 +43,8 @@ write-all-requires c κs = search needs
 returns : tie.Need-returns
 returns c = search needs
 
-pub main-spec : {M : Type 1} → statement M
-main-spec =
+pub list-input-spec : {M : Type 1} → statement M
+list-input-spec =
     tie.close
     (tie.spec
     input-space-requires
