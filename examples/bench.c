@@ -1,5 +1,6 @@
-/* Judges, joins and loads two small tables in both byte orders, decodes two strap
- * values, and prints what each call answers.
+/* Judges, joins and loads two small tables, in both byte orders and where each
+ * address takes one write, decodes two strap values, and prints what each call
+ * answers.
  *
  *   rt staticlib tuneharbor
  *   cc -std=c99 -Wall -Wextra -Werror -Iinclude examples/bench.c target/staticlib/libtuneharbor.a -o target/bench
@@ -14,6 +15,11 @@
 /* 16 permitted bytes from 0x00800000 on. */
 static const uint8_t map[12] = {
     0x52, 0x47, 0x01, 0x00, 0x00, 0x80, 0x00, 0x00, 0x00, 0x00, 0x00, 0x10,
+};
+
+/* The same bytes, where each takes one write in a load. */
+static const uint8_t map_once[12] = {
+    0x52, 0x47, 0x03, 0x00, 0x00, 0x80, 0x00, 0x00, 0x00, 0x00, 0x00, 0x10,
 };
 
 /* Entry address, one section of 3 bytes with a pad byte, zero word. */
@@ -81,6 +87,26 @@ static void load(const char *what, const uint8_t *table, size_t table_len,
     print_bytes("memory", memory, sizeof memory);
 }
 
+static void judge_once(const char *what, const uint8_t *table, size_t table_len)
+{
+    uint64_t answer[7];
+
+    tuneharbor_judge(map_once, sizeof map_once, table, table_len, false, answer);
+    print_table_answer(what, answer);
+}
+
+/* Loads into memory as it is, where each address takes one write. */
+static void load_once(const char *what, const uint8_t *table, size_t table_len,
+                      uint8_t memory[16])
+{
+    uint64_t answer[7];
+
+    tuneharbor_load(map_once, sizeof map_once, table, table_len, false, memory,
+                    16, answer);
+    print_table_answer(what, answer);
+    print_bytes("memory", memory, 16);
+}
+
 /* Joins two tables into 32 bytes, prints as many as the join has, and answers
  * how many these are. */
 static size_t join(const char *what, const uint8_t *first, size_t first_len,
@@ -137,6 +163,7 @@ int main(void)
     uint64_t answer[3];
     uint8_t output[32] = {0};
     uint8_t padded[20];
+    uint8_t memory[16] = {0};
     size_t length;
 
     tuneharbor_map(map, sizeof map, answer);
@@ -181,6 +208,18 @@ int main(void)
     judge("judge P as low first", table_p, sizeof table_p, true);
     join("join P with Q low first, as high first", table_p, sizeof table_p, low_q,
          sizeof low_q, false, output);
+
+    /* Where each address takes one write: P and Q both store 0x00800004, which
+     * two loads may and one may not. */
+    tuneharbor_map(map_once, sizeof map_once, answer);
+    printf("map of kind 3: number %" PRIu64 ", place %" PRIu64 ", sum %" PRIu64 "\n",
+           answer[0], answer[1], answer[2]);
+    load_once("load P, one write", table_p, sizeof table_p, memory);
+    load_once("load Q after P, one write", table_q, sizeof table_q, memory);
+    length = join("join Q and P once more", table_q, sizeof table_q, table_p,
+                  sizeof table_p, false, output);
+    judge_once("judge Q and P, one write", output, length);
+    load_once("load Q and P, one write", output, length, memory);
 
     /* EMIF16 with wait; and the same with reserved bit 8 one, which is refused
      * unless lenient is named. The comparison and the label name it. */

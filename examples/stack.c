@@ -22,7 +22,7 @@ typedef void load_call(const uint8_t *, size_t, const uint8_t *, size_t, bool, u
 
 /* What is passed. */
 static uint8_t map[768];
-static uint8_t table[1024];
+static uint8_t table[1028];
 static size_t table_len;
 static bool low_first;
 static uint8_t memory[63 * 16];
@@ -113,20 +113,27 @@ static size_t stack_of_load(void)
 
 /* ---- the cases */
 
-/* They differ in the last record of the map and in the table's length. The other
- * 63 records are permitted, and their addresses touch, in an order in which no
- * two neighbours of the map do. The table's section goes through all of them. */
+/* 63 records of the map are permitted, and their addresses touch, in an order in
+ * which no two neighbours of the map do. The table has two sections of 500 bytes,
+ * which go through all of them. The cases differ in the kind of these records, in
+ * the last record of the map, in the second section's address, and in the table's
+ * length. */
 static const struct {
     uint8_t kind;
-    uint32_t first;
+    uint8_t last_kind;
+    uint32_t last_first;
+    uint32_t second;
     size_t table_len;
     uint64_t number;
 } cases[] = {
-    {2, 0x00900000, 1016, 0},                      /* accepted */
-    {2, 0x00800100, 1016, TUNEHARBOR_NOT_OPEN},    /* a reserved address in the section */
-    {2, 0x00800100, 1020, TUNEHARBOR_BYTES_AFTER}, /* and a fault of the form after it */
-    {2, 0x00900000, 1012, TUNEHARBOR_TABLE_CUT},
-    {7, 0x00900000, 1016, TUNEHARBOR_MAP_RECORD},
+    {1, 2, 0x00900000, 0x008001F4, 1024, 0},                       /* accepted */
+    {1, 2, 0x00800100, 0x008001F4, 1024, TUNEHARBOR_NOT_OPEN},     /* a reserved address in the first section */
+    {1, 2, 0x00800100, 0x008001F4, 1028, TUNEHARBOR_BYTES_AFTER},  /* and a fault of the form after it */
+    {1, 2, 0x00900000, 0x008001F4, 1020, TUNEHARBOR_TABLE_CUT},
+    {1, 7, 0x00900000, 0x008001F4, 1024, TUNEHARBOR_MAP_RECORD},
+    {1, 2, 0x00900000, 0x008001F3, 1024, 0},                       /* an address that both sections have */
+    {3, 2, 0x00900000, 0x008001F4, 1024, 0},                       /* the first, where each takes one write */
+    {3, 2, 0x00900000, 0x008001F3, 1024, TUNEHARBOR_STORED_TWICE}, /* and an address that both have */
 };
 
 /* The four bytes of a word, the high one first. */
@@ -166,15 +173,19 @@ static void put_record(size_t index, uint8_t kind, uint32_t first)
 static size_t most(size_t (*stack_of)(void))
 {
     const size_t count = sizeof cases / sizeof cases[0];
-    size_t i, n, used, highest = 0;
+    size_t i, n, record, used, highest = 0;
 
     for (n = 0; n < 2 * count; n++) {
         i = n % count;
         low_first = n >= count;
         put_header(table, 0x00800000);
-        put_header(table + 4, 1000);
+        put_header(table + 4, 500);
         put_header(table + 8, 0x00800000);
-        put_record(63, cases[i].kind, cases[i].first);
+        put_header(table + 512, 500);
+        put_header(table + 516, cases[i].second);
+        for (record = 0; record < 63; record++)
+            put_record(record, cases[i].kind, 0x00800000 + 16 * (uint32_t)(record * 2 % 63));
+        put_record(63, cases[i].last_kind, cases[i].last_first);
         table_len = cases[i].table_len;
         answer[0] = UINT64_MAX;
         used = stack_of();
@@ -190,12 +201,9 @@ static size_t most(size_t (*stack_of)(void))
 
 int main(void)
 {
-    size_t i, judge_stack, load_stack;
+    const size_t judge_stack = most(stack_of_judge);
+    const size_t load_stack = most(stack_of_load);
 
-    for (i = 0; i < 63; i++)
-        put_record(i, 1, 0x00800000 + 16 * (uint32_t)(i * 2 % 63));
-    judge_stack = most(stack_of_judge);
-    load_stack = most(stack_of_load);
     if (judge_stack == 0 || load_stack == 0)
         return 1;
     printf("judge: %zu bytes of stack\nload: %zu bytes of stack\n", judge_stack, load_stack);

@@ -58,17 +58,29 @@ enum {
     TUNEHARBOR_NO_REGISTER = 16,     /* a register is not in the list */
     TUNEHARBOR_BRANCH = 17,          /* a branch is asked for */
     TUNEHARBOR_STRAP_LONG = 18,      /* the strap value is over 8,191 */
-    TUNEHARBOR_STRAP_RESERVED = 19   /* the strap value is reserved */
+    TUNEHARBOR_STRAP_RESERVED = 19,  /* the strap value is reserved */
+    TUNEHARBOR_STORED_TWICE = 29     /* an address of kind 3 is stored twice */
 };
 
-/* Judges a map.
+/* Judges a map. A record's kind, its third byte, is 1 permitted, 2 reserved, or
+ * 3, permitted with one write: a table that stores one of its addresses twice is
+ * refused. A record of kind 1 or 3 that shares an address with an earlier one of
+ * these kinds is refused; reserved records may share addresses with any.
  *
  * answer[0] number
  * answer[1] place
- * answer[2] the permitted sum: how many bytes of memory loading needs */
+ * answer[2] the permitted sum, of kinds 1 and 3: how many bytes of memory
+ *           loading needs */
 void tuneharbor_map(const uint8_t *map, size_t map_len, uint64_t answer[3]);
 
 /* Judges a map and a boot table, and stores nothing.
+ *
+ * TUNEHARBOR_STORED_TWICE comes after TUNEHARBOR_NOT_OPEN of every section; the
+ * place is the offset of the first section that stores an address of kind 3
+ * which an earlier section of the same table has stored. Under a map with kind 3
+ * a table whose sections neither rise nor fall takes time by pairs of sections.
+ * The worst has 1,398,100 of them, the most that a table can have, all in kind 3;
+ * it would take some 50 minutes on the server of docs/BENCHMARK.md.
  *
  * answer[0] number
  * answer[1] place
@@ -84,6 +96,8 @@ void tuneharbor_judge(const uint8_t *map, size_t map_len,
 
 /* Loads a boot table into memory under a map. Memory of another length than the
  * permitted sum is refused. Nothing is stored before the whole table is accepted.
+ * At an address that two sections store the later one wins; under kind 3 such a
+ * table is refused. What one load stored does not count in the next.
  *
  * answer[0] to answer[6] as for tuneharbor_judge */
 void tuneharbor_load(const uint8_t *map, size_t map_len,

@@ -223,8 +223,10 @@ fn set_word(bytes: &mut [u8], at: usize, value: u32) {
 #[derive(Clone, Debug)]
 pub struct Regions {
     pub map: Vec<u8>,
-    /// First address and length of each permitted record.
+    /// First address and length of each permitted record, kind 1 or 3.
     pub runs: Vec<(u64, u64)>,
+    /// Those of kind 3.
+    pub once: Vec<(u64, u64)>,
 }
 
 impl Regions {
@@ -232,10 +234,54 @@ impl Regions {
     pub fn memory_size(&self) -> u64 {
         self.runs.iter().map(|run| run.1).sum()
     }
+
+    /// The runs of kind 1.
+    fn not_once(&self) -> Vec<(u64, u64)> {
+        let mut runs = self.runs.clone();
+        runs.retain(|run| !self.once.contains(run));
+        runs
+    }
+
+    /// The longest stretches of permitted addresses in rising order, first and
+    /// end. A stretch has one record, or more that touch (or, in a map that is
+    /// not sound, share addresses).
+    fn stretches(&self) -> Vec<(u64, u64)> {
+        let mut runs = self.runs.clone();
+        runs.sort_unstable();
+        let mut list: Vec<(u64, u64)> = Vec::new();
+        for (first, length) in runs {
+            match list.last_mut() {
+                Some(stretch) if first <= stretch.1 => {
+                    stretch.1 = stretch.1.max(first + length);
+                }
+                _ => list.push((first, first + length)),
+            }
+        }
+        list
+    }
+}
+
+/// The kinds of so many permitted records: in a third of the maps kind 3 for all
+/// of them or for some, and kind 1 otherwise.
+fn permitted_kinds(numbers: &mut Numbers, count: usize) -> Vec<u8> {
+    let mut kinds = vec![1; count];
+    match numbers.below(9) {
+        _ if count == 0 => {}
+        0 => kinds.fill(3),
+        1 | 2 => {
+            for kind in &mut kinds {
+                *kind = numbers.pick(&[1, 3]);
+            }
+            kinds[numbers.index(count)] = 3;
+        }
+        _ => {}
+    }
+    kinds
 }
 
 /// A sound map: short permitted records that touch or lie near each other, in
-/// rising, falling or mixed order, with reserved records as holes in them.
+/// rising, falling or mixed order, with reserved records as holes in them. In a
+/// third of the maps permitted records are of kind 3.
 pub fn sound_map(numbers: &mut Numbers) -> Regions {
     let everything = numbers.once_in(40);
     let full = numbers.once_in(30);
@@ -279,10 +325,15 @@ pub fn sound_map(numbers: &mut Numbers) -> Regions {
         1 => numbers.shuffle(&mut runs),
         _ => {}
     }
-    let mut records: Vec<Vec<u8>> = runs
-        .iter()
-        .map(|(first, length)| record(1, *first as u32, *length as u32))
-        .collect();
+    let kinds = permitted_kinds(numbers, runs.len());
+    let mut records = Vec::new();
+    let mut once = Vec::new();
+    for (kind, (first, length)) in kinds.into_iter().zip(&runs) {
+        records.push(record(kind, *first as u32, *length as u32));
+        if kind == 3 {
+            once.push((*first, *length));
+        }
+    }
     let holes = if full {
         64 - records.len() as u64
     } else if numbers.once_in(3) {
@@ -313,6 +364,7 @@ pub fn sound_map(numbers: &mut Numbers) -> Regions {
     Regions {
         map: records.concat(),
         runs,
+        once,
     }
 }
 
@@ -361,11 +413,11 @@ fn damage_map(numbers: &mut Numbers, regions: &mut Regions) {
                 let end = first.wrapping_add(length);
                 let start = numbers.pick(&[end, end.wrapping_sub(1), first.wrapping_sub(1)]);
                 let size = numbers.pick(&[1, 2, 5]);
-                map.extend(record(1, start, size));
+                map.extend(record(numbers.pick(&[1, 3]), start, size));
             }
             9 => {
                 // A permitted record around another.
-                map.extend(record(1, first.saturating_sub(2), 40));
+                map.extend(record(numbers.pick(&[1, 3]), first.saturating_sub(2), 40));
             }
             10 => {
                 let spot = numbers.index(map.len());
@@ -500,10 +552,16 @@ pub fn change_pads(numbers: &mut Numbers, table: &mut [u8], sections: &[Section]
 /// A section whose addresses are in one permitted record, or `None` where the
 /// map has none.
 pub fn inside(numbers: &mut Numbers, regions: &Regions) -> Option<Section> {
-    if regions.runs.is_empty() {
+    inside_of(numbers, &regions.runs)
+}
+
+/// A section whose addresses are in one of the runs, or `None` where there are
+/// none.
+fn inside_of(numbers: &mut Numbers, runs: &[(u64, u64)]) -> Option<Section> {
+    if runs.is_empty() {
         return None;
     }
-    let (first, length) = numbers.pick(&regions.runs);
+    let (first, length) = numbers.pick(runs);
     let skip = numbers.below(length.min(64));
     let size = numbers.from_to(1, (length - skip).min(24));
     let address = (first + skip) as u32;
@@ -536,8 +594,96 @@ fn anywhere(numbers: &mut Numbers, regions: &Regions, before: Option<&Section>) 
     Section::of_size(numbers, address as u32, size as usize)
 }
 
+/// Sections that share no address: the stretches of a map with permitted records,
+/// cut into pieces that touch or lie near each other, in rising, falling or mixed
+/// order.
+fn apart(numbers: &mut Numbers, regions: &Regions) -> Vec<Section> {
+    let longest = numbers.pick(&[1, 4, 24]);
+    let mut list = Vec::new();
+    for (first, end) in regions.stretches() {
+        // Of nearly all addresses the first are enough.
+        let end = end.min(first + 2000);
+        let mut at = first + numbers.pick(&[0, 0, 1, 3]);
+        while at < end {
+            let size = numbers.from_to(1, longest.min(end - at));
+            list.push(Section::of_size(numbers, at as u32, size as usize));
+            at += size + numbers.pick(&[0, 0, 0, 1, 2, 9]);
+        }
+    }
+    // Neighbours stay, so that sections touch.
+    let wanted = match numbers.below(20) {
+        0 => numbers.from_to(20, 120),
+        _ => numbers.from_to(1, 6),
+    };
+    let kept = list.len().min(wanted as usize);
+    list.drain(..numbers.index(list.len() - kept + 1));
+    list.truncate(kept);
+    match numbers.below(4) {
+        0 => {}
+        1 => list.reverse(),
+        _ => numbers.shuffle(&mut list),
+    }
+    list
+}
+
+/// A section that shares addresses with one of a list: its first address is the
+/// other's last, its last address is the other's first, it has one address of the
+/// other alone, all of them, or more around one. It lies in one stretch.
+fn sharing(numbers: &mut Numbers, regions: &Regions, list: &[Section]) -> Option<Section> {
+    if list.is_empty() {
+        return None;
+    }
+    let other = &list[numbers.index(list.len())];
+    let first = u64::from(other.address);
+    let last = first + other.data.len() as u64 - 1;
+    let spot = numbers.from_to(first, last);
+    let more = numbers.below(6);
+    let (low, high) = match numbers.below(6) {
+        0 | 1 => (spot, spot),
+        2 => (last, last + more),
+        3 => (first.saturating_sub(more), first),
+        4 => (first, last),
+        _ => (spot.saturating_sub(more), spot + more),
+    };
+    let stretches = regions.stretches();
+    let (start, end) = stretches
+        .into_iter()
+        .find(|(start, end)| *start <= spot && spot < *end)?;
+    let low = low.max(start);
+    let size = high.min(end - 1) - low + 1;
+    Some(Section::of_size(numbers, low as u32, size as usize))
+}
+
+/// The sections of a well-formed table for a map with kind 3: they share no
+/// address, but for a few more at times, which share addresses of any kind or of
+/// kind 1 alone. Now and then one lies anywhere.
+fn mostly_apart(numbers: &mut Numbers, regions: &Regions) -> Vec<Section> {
+    let mut list = apart(numbers, regions);
+    let manner = numbers.below(8);
+    let mut more = Vec::new();
+    if matches!(manner, 0..=2) {
+        more.extend(sharing(numbers, regions, &list));
+    }
+    if matches!(manner, 2..=4) {
+        more.extend(inside_of(numbers, &regions.not_once()));
+        more.extend(inside_of(numbers, &regions.not_once()));
+    }
+    if numbers.once_in(12) {
+        more.push(anywhere(numbers, regions, list.last()));
+    }
+    for section in more {
+        list.insert(numbers.index(list.len() + 1), section);
+    }
+    list
+}
+
 /// The sections of a well-formed table: most lie in the map, some lie anywhere.
+/// Under a map with kind 3 most tables have sections that mostly share no
+/// address.
 pub fn sections(numbers: &mut Numbers, regions: &Regions) -> Vec<Section> {
+    if !regions.once.is_empty() && !numbers.once_in(3) {
+        return mostly_apart(numbers, regions);
+    }
     let wanted = match numbers.below(60) {
         0 => numbers.from_to(20, 120),
         1..=5 => 0,

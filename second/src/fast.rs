@@ -1,7 +1,9 @@
 //! All calls, written to be quick: the peer that the benchmark measures the
 //! proved library against. The map is read once into spans of open addresses,
 //! the form and the map rule are judged in one walk, bytes are copied in whole
-//! runs, and strap values are taken apart with shifts and masks.
+//! runs, and strap values are taken apart with shifts and masks. Where the map
+//! has records of kind 3, that walk also sees whether the sections rise or fall;
+//! if they do neither, their parts of kind 3 are sorted.
 
 use crate::reference::{
     ByteOrder, ConfigAnswer, JoinAnswer, LabelAnswer, LoadAnswer, MapAnswer, Refusal, SameAnswer,
@@ -9,6 +11,8 @@ use crate::reference::{
 };
 use std::borrow::Cow;
 use std::cell::OnceCell;
+use std::cmp::Reverse;
+use std::collections::BinaryHeap;
 
 fn refuse<T>(number: u64, place: usize) -> Result<T, Refusal> {
     Err(Refusal {
@@ -29,9 +33,11 @@ fn word(bytes: &[u8], at: usize) -> u32 {
 
 // The region map.
 
-/// Mark, kind and zero byte of a permitted and of a reserved record.
+/// Mark, kind and zero byte of a permitted record, of a reserved one, and of a
+/// permitted one whose addresses take one write.
 const PERMITTED: u32 = 0x5247_0100;
 const RESERVED: u32 = 0x5247_0200;
+const ONE_WRITE: u32 = 0x5247_0300;
 /// Most records in a map, and so most spans.
 const RECORD_LIMIT: usize = MAP_LIMIT / 12;
 
@@ -59,8 +65,10 @@ impl Span {
 
 /// The records of a sound map.
 struct Records {
-    /// The permitted records in rising order.
+    /// The records of kinds 1 and 3 in rising order.
     permitted: Vec<Span>,
+    /// The records of kind 3 in rising order.
+    once: Vec<Span>,
     /// First address and end of the reserved records, in map order.
     reserved: Vec<(u64, u64)>,
     /// All permitted lengths together.
@@ -75,6 +83,7 @@ impl Records {
             return refuse(1, 0);
         }
         let mut permitted = Vec::with_capacity(map.len() / 12);
+        let mut once = Vec::new();
         let mut reserved = Vec::new();
         let mut place = 0;
         let mut fault = None;
@@ -91,6 +100,11 @@ impl Records {
                     place += span.length;
                 }
                 RESERVED if fits => reserved.push((span.first, span.end())),
+                ONE_WRITE if fits => {
+                    permitted.push(span);
+                    once.push(span);
+                    place += span.length;
+                }
                 _ => {
                     fault = Some(index);
                     break;
@@ -98,6 +112,7 @@ impl Records {
             }
         }
         permitted.sort_unstable_by_key(|span| span.first);
+        once.sort_unstable_by_key(|span| span.first);
         // Where rising records share an address, two neighbours do.
         if !permitted.is_sorted_by(|one, next| one.end() <= next.first) {
             fault = first_shared(map);
@@ -106,20 +121,21 @@ impl Records {
             Some(index) => refuse(2, index),
             None => Ok(Records {
                 permitted,
+                once,
                 reserved,
                 sum: place,
             }),
         }
     }
 
-    /// The spans of open addresses, in rising order.
+    /// The spans of open addresses and those of kind 3, both in rising order.
     #[inline(always)]
-    fn open(mut self) -> Vec<Span> {
+    fn open(mut self) -> (Vec<Span>, Vec<Span>) {
         if self.reserved.is_empty() {
-            return self.permitted;
+            return (self.permitted, self.once);
         }
         self.reserved.sort_unstable();
-        without(&self.permitted, &self.reserved)
+        (without(&self.permitted, &self.reserved), self.once)
     }
 }
 
@@ -129,7 +145,7 @@ impl Records {
 fn first_shared(map: &[u8]) -> Option<usize> {
     let mut earlier: Vec<(u64, u64)> = Vec::new();
     map.chunks_exact(12).position(|record| {
-        if word(record, 0) != PERMITTED {
+        if !matches!(word(record, 0), PERMITTED | ONE_WRITE) {
             return false;
         }
         let first = u64::from(word(record, 4));
@@ -310,16 +326,118 @@ fn load_refused(refusal: Refusal) -> LoadAnswer {
     }
 }
 
-/// The form, then the map rule, in one walk.
-fn judge_table<const LOW_FIRST: bool>(open: &[Span], table: &[u8]) -> LoadAnswer {
+/// Sections that rise or fall share no address: each begins at or past the end
+/// of all before it, or ends at or before the start of all of them.
+struct Extent {
+    lowest: u64,
+    past: u64,
+    /// No section so far lies between those before it.
+    ordered: bool,
+}
+
+impl Extent {
+    fn new() -> Extent {
+        Extent {
+            lowest: TOP,
+            past: 0,
+            ordered: true,
+        }
+    }
+
+    fn add(&mut self, first: u64, end: u64) {
+        if first >= self.past {
+            self.past = end;
+            self.lowest = self.lowest.min(first);
+        } else if end <= self.lowest {
+            self.lowest = first;
+        } else {
+            self.ordered = false;
+        }
+    }
+}
+
+/// Tells the first and the last address of each part of a section that lies in
+/// one of the spans.
+#[inline(always)]
+fn parts(lookup: &Lookup, address: u64, size: u64, mut tell: impl FnMut(u64, u64)) {
+    let end = address + size;
+    for span in &lookup.spans[lookup.index(address)..] {
+        if span.first >= end {
+            break;
+        }
+        tell(span.first.max(address), span.end().min(end) - 1);
+    }
+}
+
+/// The offset of the first section of a well-formed table that stores again an
+/// address of these spans.
+#[inline(never)]
+fn repeated<const LOW_FIRST: bool>(once: &[Span], table: &[u8]) -> Option<usize> {
+    let lookup = Lookup::new(once);
+    // The first and the last address of a part in one number, which is quick to
+    // sort by the first.
+    let mut list: Vec<u64> = Vec::new();
+    let _ = walk::<LOW_FIRST>(table, |_, address, size| {
+        parts(&lookup, address, size, |first, last| {
+            list.push(first << 32 | last)
+        });
+    });
+    list.sort_unstable();
+    // Where rising parts share an address, two neighbours do.
+    if list.is_sorted_by(|one, next| (one & 0xFFFF_FFFF) < next >> 32) {
+        return None;
+    }
+    first_repeat::<LOW_FIRST>(&lookup, table)
+}
+
+/// The same where there is such a section: of the two sections of each pair that
+/// shares an address the later one, and of these the first.
+#[cold]
+fn first_repeat<const LOW_FIRST: bool>(lookup: &Lookup, table: &[u8]) -> Option<usize> {
+    let mut list = Vec::new();
+    let _ = walk::<LOW_FIRST>(table, |place, address, size| {
+        parts(lookup, address, size, |first, last| {
+            list.push((first, last, place))
+        });
+    });
+    list.sort_unstable();
+    // Parts that began at or before this one, the earliest section on top. One
+    // that has ended goes when it comes to the top.
+    let mut begun: BinaryHeap<Reverse<(usize, u64)>> = BinaryHeap::new();
+    let mut found = None;
+    for (first, last, place) in list {
+        while begun.peek().is_some_and(|part| part.0 .1 < first) {
+            begun.pop();
+        }
+        if let Some(Reverse((earliest, _))) = begun.peek() {
+            let later = place.max(*earliest);
+            found = Some(found.map_or(later, |place: usize| place.min(later)));
+        }
+        begun.push(Reverse((place, last)));
+    }
+    found
+}
+
+/// The form, then the map rule, in one walk; and, where spans take one write,
+/// that none of their addresses is stored again. Compiled apart for maps without
+/// such spans.
+fn judge_table<const LOW_FIRST: bool, const ONCE: bool>(
+    open: &[Span],
+    once: &[Span],
+    table: &[u8],
+) -> LoadAnswer {
     let open = joined(open);
     let lookup = Lookup::new(&open);
     let mut bytes = 0;
     let mut closed = None;
+    let mut extent = Extent::new();
     // The span of the section before.
     let mut known = open.first().copied().unwrap_or_default();
     let walked = walk::<LOW_FIRST>(table, |place, address, size| {
         bytes += size;
+        if ONCE {
+            extent.add(address, address + size);
+        }
         let offset = known.offset(address);
         if offset < known.length && size <= known.length - offset {
             return;
@@ -347,6 +465,14 @@ fn judge_table<const LOW_FIRST: bool>(open: &[Span], table: &[u8]) -> LoadAnswer
             ..Default::default()
         };
     }
+    if ONCE && !extent.ordered {
+        if let Some(place) = repeated::<LOW_FIRST>(once, table) {
+            return load_refused(Refusal {
+                number: 29,
+                place: place as u64,
+            });
+        }
+    }
     let entry = u64::from(header_word::<LOW_FIRST>(table, 0));
     let entry_open = known.offset(entry) < known.length || lookup.holding(entry).is_some();
     LoadAnswer {
@@ -355,6 +481,15 @@ fn judge_table<const LOW_FIRST: bool>(open: &[Span], table: &[u8]) -> LoadAnswer
         sections,
         bytes,
         ..Default::default()
+    }
+}
+
+/// Judges a table under the open spans and those that take one write.
+#[inline(always)]
+fn judge_under<const LOW_FIRST: bool>(open: &[Span], once: &[Span], table: &[u8]) -> LoadAnswer {
+    match once.is_empty() {
+        true => judge_table::<LOW_FIRST, false>(open, once, table),
+        false => judge_table::<LOW_FIRST, true>(open, once, table),
     }
 }
 
@@ -368,7 +503,10 @@ pub fn judge(map: &[u8], table: &[u8], order: ByteOrder) -> LoadAnswer {
 fn judge_in<const LOW_FIRST: bool>(map: &[u8], table: &[u8]) -> LoadAnswer {
     match Records::read(map) {
         Err(refusal) => load_refused(refusal),
-        Ok(records) => judge_table::<LOW_FIRST>(&records.open(), table),
+        Ok(records) => {
+            let (open, once) = records.open();
+            judge_under::<LOW_FIRST>(&open, &once, table)
+        }
     }
 }
 
@@ -390,8 +528,8 @@ fn load_in<const LOW_FIRST: bool>(map: &[u8], table: &[u8], memory: &mut [u8]) -
             place: 0,
         });
     }
-    let open = records.open();
-    let answer = judge_table::<LOW_FIRST>(&open, table);
+    let (open, once) = records.open();
+    let answer = judge_under::<LOW_FIRST>(&open, &once, table);
     if answer.number == 0 {
         store::<LOW_FIRST>(&open, table, memory);
     }

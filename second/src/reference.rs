@@ -1,7 +1,9 @@
-//! Document 01, as requests 2, 7 and 8 of document 02 mend it, read once more
-//! in plain Rust: the map, the boot table, judging, loading, the join, the
+//! Document 01, as requests 2, 7, 8 and 10 of document 02 mend it, read once
+//! more in plain Rust: the map, the boot table, judging, loading, the join, the
 //! configuration table, the strap value and the listers' text. Addresses are
 //! looked at one by one and bytes are copied one by one; nothing here is quick.
+
+use std::collections::HashSet;
 
 /// Most bytes in a map: 64 records of 12.
 pub const MAP_LIMIT: usize = 768;
@@ -131,15 +133,29 @@ fn word(bytes: &[u8], at: usize) -> u64 {
 
 // The region map.
 
+/// What a record says of its addresses: kind 1, kind 2 and kind 3.
+#[derive(Clone, Copy, Debug, PartialEq, Eq)]
+pub enum Kind {
+    Permitted,
+    Reserved,
+    /// Permitted, and a load stores each address at most once.
+    OneWrite,
+}
+
 /// One record of a sound map.
 #[derive(Clone, Copy, Debug, PartialEq, Eq)]
 pub struct Record {
-    pub permitted: bool,
+    pub kind: Kind,
     pub first: u64,
     pub length: u64,
 }
 
 impl Record {
+    /// Kinds 1 and 3.
+    fn permitted(&self) -> bool {
+        self.kind == Kind::Permitted || self.kind == Kind::OneWrite
+    }
+
     fn holds(&self, address: u64) -> bool {
         self.first <= address && address < self.first + self.length
     }
@@ -154,24 +170,31 @@ pub fn read_map(map: &[u8]) -> Result<Vec<Record>, Refusal> {
     }
     let mut records: Vec<Record> = Vec::new();
     for (index, bytes) in map.chunks(12).enumerate() {
-        let kind = bytes[2];
+        let kind = match bytes[2] {
+            1 => Some(Kind::Permitted),
+            2 => Some(Kind::Reserved),
+            3 => Some(Kind::OneWrite),
+            _ => None,
+        };
         let first = word(bytes, 4);
         let length = word(bytes, 8);
         // 2: mark, kind, the zero byte, a length of at least 1, the top.
         let mark_wrong = bytes[0] != 0x52 || bytes[1] != 0x47;
-        let kind_wrong = kind != 1 && kind != 2;
         let zero_wrong = bytes[3] != 0;
-        if mark_wrong || kind_wrong || zero_wrong || length == 0 || first + length > TOP {
+        let Some(kind) = kind else {
+            return refuse(2, index);
+        };
+        if mark_wrong || zero_wrong || length == 0 || first + length > TOP {
             return refuse(2, index);
         }
         let record = Record {
-            permitted: kind == 1,
+            kind,
             first,
             length,
         };
         // 2: a permitted record shares no address with an earlier permitted one.
         for earlier in &records {
-            let both = record.permitted && earlier.permitted;
+            let both = record.permitted() && earlier.permitted();
             // Two runs share an address exactly when one holds the other's first.
             if both && (earlier.holds(record.first) || record.holds(earlier.first)) {
                 return refuse(2, index);
@@ -186,7 +209,7 @@ pub fn read_map(map: &[u8]) -> Result<Vec<Record>, Refusal> {
 pub fn permitted_sum(records: &[Record]) -> u64 {
     let mut sum = 0;
     for record in records {
-        if record.permitted {
+        if record.permitted() {
             sum += record.length;
         }
     }
@@ -198,7 +221,7 @@ pub fn is_open(records: &[Record], address: u64) -> bool {
     let mut permitted = false;
     for record in records {
         if record.holds(address) {
-            if !record.permitted {
+            if !record.permitted() {
                 return false;
             }
             permitted = true;
@@ -212,7 +235,7 @@ pub fn is_open(records: &[Record], address: u64) -> bool {
 pub fn place_of(records: &[Record], address: u64) -> Option<u64> {
     let mut before = 0;
     for record in records {
-        if record.permitted {
+        if record.permitted() {
             if record.holds(address) {
                 return Some(before + address - record.first);
             }
@@ -220,6 +243,16 @@ pub fn place_of(records: &[Record], address: u64) -> Option<u64> {
         }
     }
     None
+}
+
+/// Whether an address takes one write: a record of kind 3 holds it.
+pub fn takes_one_write(records: &[Record], address: u64) -> bool {
+    for record in records {
+        if record.kind == Kind::OneWrite && record.holds(address) {
+            return true;
+        }
+    }
+    false
 }
 
 /// The answer for a map alone.
@@ -344,7 +377,25 @@ fn load_refused(refusal: Refusal) -> LoadAnswer {
     }
 }
 
-/// The map rule, and the answer for a table whose form is right.
+/// The first section in table order that stores an address of kind 3 which an
+/// earlier section has stored.
+fn first_repeat<'a>(records: &[Record], table: &'a Table) -> Option<&'a Section<'a>> {
+    let mut stored = HashSet::new();
+    for section in &table.sections {
+        for i in 0..section.data.len() as u64 {
+            let address = section.address + i;
+            // The section has each address once, so that one which is in the
+            // set already is an earlier section's.
+            if takes_one_write(records, address) && !stored.insert(address) {
+                return Some(section);
+            }
+        }
+    }
+    None
+}
+
+/// The map rule, then the rule of one write, and the answer for a table whose
+/// form is right.
 fn allowed(records: &[Record], table: &Table) -> LoadAnswer {
     // 9: the first section with an address that is not open, and its lowest.
     for section in &table.sections {
@@ -360,6 +411,14 @@ fn allowed(records: &[Record], table: &Table) -> LoadAnswer {
             }
         }
     }
+    // 29: an address of kind 3 is stored again.
+    if let Some(section) = first_repeat(records, table) {
+        return LoadAnswer {
+            number: 29,
+            place: section.offset as u64,
+            ..Default::default()
+        };
+    }
     LoadAnswer {
         entry: table.entry,
         entry_open: u64::from(is_open(records, table.entry)),
@@ -369,7 +428,7 @@ fn allowed(records: &[Record], table: &Table) -> LoadAnswer {
     }
 }
 
-/// Judging: 1, 2, 4, the form, then 9.
+/// Judging: 1, 2, 4, the form, then 9, then 29.
 pub fn judge(map: &[u8], table: &[u8], order: ByteOrder) -> LoadAnswer {
     let records = match read_map(map) {
         Err(refusal) => return load_refused(refusal),

@@ -2,12 +2,14 @@
 //! answer and every byte of every buffer. Each refusal of each call must be hit
 //! at least a hundred times: those of judging, loading and the join in each byte
 //! order, and the join's refusals of a table for the first and for the second. A
-//! table written in the other order must be refused as often. 6 is withdrawn and
+//! table written in the other order must be refused as often, and the same is
+//! asked of each outcome of a load under a map with kind 3. 6 is withdrawn and
 //! must never be answered.
 
 use second::cases::{self, ConfigCase, JoinCase, LoadCase, Numbers};
-use second::reference::{ByteOrder, JoinAnswer, CONFIG_LIMIT, TABLE_LIMIT};
+use second::reference::{ByteOrder, JoinAnswer, Kind, CONFIG_LIMIT, TABLE_LIMIT};
 use second::{calls, reference};
+use std::collections::HashMap;
 
 /// Each refusal must be hit at least so often.
 const FLOOR: u64 = 100;
@@ -15,8 +17,8 @@ const FLOOR: u64 = 100;
 const WITHDRAWN: u64 = 6;
 /// The refusals of judging, those of loading, those of the join that name no
 /// table, and those that name one.
-const OF_JUDGING: &[usize] = &[1, 2, 4, 5, 7, 8, 9];
-const OF_LOADS: &[usize] = &[1, 2, 3, 4, 5, 7, 8, 9];
+const OF_JUDGING: &[usize] = &[1, 2, 4, 5, 7, 8, 9, 29];
+const OF_LOADS: &[usize] = &[1, 2, 3, 4, 5, 7, 8, 9, 29];
 const OF_JOINS: &[usize] = &[10, 11];
 const OF_JOINED: &[usize] = &[4, 5, 7, 8];
 /// The refusals of the calls that read no boot table.
@@ -26,9 +28,9 @@ const FEWEST: u64 = 200_000;
 /// Bytes before and after a lent buffer that no call may touch.
 const GUARD: usize = 16;
 
-/// How often each number was answered; 0 is acceptance.
+/// How often each number was answered; 0 is acceptance, and 29 is the highest.
 #[derive(Default)]
-struct Hits([u64; 20]);
+struct Hits([u64; 30]);
 
 impl Hits {
     fn add(&mut self, number: u64) {
@@ -50,11 +52,110 @@ impl Hits {
     }
 }
 
+/// Loads under maps with kind 3, of tables that store an address of kind 3.
+#[derive(Debug, Default)]
+struct OnceHits {
+    /// Accepted, with two sections or more that store such addresses.
+    accepted: u64,
+    /// Accepted, with an address of kind 1 that is stored twice.
+    shared: u64,
+    /// Accepted, with two sections that touch in kind 3.
+    touching: u64,
+    /// Accepted, with a section that has addresses of kinds 3 and 1.
+    across: u64,
+    /// Refused with 29.
+    repeated: u64,
+    /// Refused with 29, for no address of the section right before.
+    behind: u64,
+    /// Refused with 9, with an address of kind 3 that is stored twice.
+    closed: u64,
+}
+
+impl OnceHits {
+    fn add(&mut self, case: &LoadCase, number: u64, place: u64) {
+        let Ok(records) = reference::read_map(&case.map) else {
+            return;
+        };
+        if records.iter().all(|record| record.kind != Kind::OneWrite) {
+            return;
+        }
+        let Ok(table) = reference::read_table(&case.table, case.order) else {
+            return;
+        };
+        // How often each address is stored.
+        let mut times: HashMap<u64, u64> = HashMap::new();
+        for section in &table.sections {
+            for i in 0..section.data.len() as u64 {
+                *times.entry(section.address + i).or_default() += 1;
+            }
+        }
+        let once = |address: &u64| reference::takes_one_write(&records, *address);
+        let twice = |kind_3: bool| {
+            let mut all = times.iter();
+            all.any(|(address, times)| *times > 1 && once(address) == kind_3)
+        };
+        if !times.keys().any(once) {
+            return;
+        }
+        // The addresses of each section, and of these the ones of kind 3.
+        let addresses = |section: &reference::Section| {
+            let first = section.address;
+            first..first + section.data.len() as u64
+        };
+        let kind_3 = |section: &reference::Section| -> Vec<u64> {
+            addresses(section).filter(|address| once(address)).collect()
+        };
+        let sections = &table.sections;
+        if number == 0 {
+            let storing = sections
+                .iter()
+                .filter(|section| !kind_3(section).is_empty());
+            self.accepted += u64::from(storing.count() > 1);
+            self.shared += u64::from(twice(false));
+            let ends = sections.iter().map(|section| addresses(section).end);
+            self.touching += u64::from(ends.into_iter().any(|end| {
+                once(&end) && once(&(end - 1)) && sections.iter().any(|next| next.address == end)
+            }));
+            self.across += u64::from(sections.iter().any(|section| {
+                let of_kind_3 = kind_3(section).len();
+                of_kind_3 > 0 && of_kind_3 < section.data.len()
+            }));
+        }
+        if number == 29 {
+            self.repeated += 1;
+            let at = sections
+                .iter()
+                .position(|section| section.offset as u64 == place)
+                .expect("a section stands at the place");
+            let before = kind_3(&sections[at - 1]);
+            let here = kind_3(&sections[at]);
+            self.behind += u64::from(!here.iter().any(|address| before.contains(address)));
+        }
+        self.closed += u64::from(number == 9 && twice(true));
+    }
+
+    fn close(&self, name: &str, full: bool) {
+        println!("{name}, loads under kind 3: {self:?}");
+        for times in [
+            self.accepted,
+            self.shared,
+            self.touching,
+            self.across,
+            self.repeated,
+            self.behind,
+            self.closed,
+        ] {
+            assert!(times >= FLOOR || !full, "{name}: too few under kind 3");
+        }
+    }
+}
+
 /// The counts of the calls over boot tables of one order.
 #[derive(Default)]
 struct TableHits {
     judge: Hits,
     load: Hits,
+    once: OnceHits,
     /// By the table that the answer names: none, the first, the second.
     join: [Hits; 3],
     /// Refused tables that were written in the other order: read in it they are
@@ -73,6 +174,7 @@ impl TableHits {
         self.judge
             .close(&format!("{name}, judge"), OF_JUDGING, full);
         self.load.close(&format!("{name}, load"), OF_LOADS, full);
+        self.once.close(name, full);
         none.close(&format!("{name}, join"), OF_JOINS, full);
         for (table, hits) in [(1, first), (2, second)] {
             let name = format!("{name}, join, table {table}");
@@ -132,6 +234,7 @@ fn compare_load(case: &LoadCase, hits: &mut [TableHits; 2]) {
     let hits = &mut hits[order as usize];
     hits.judge.add(judged.number);
     hits.load.add(answer.number);
+    hits.once.add(case, answer.number, answer.place);
     let other = reference::read_table(table, order.other());
     let turned = other.is_ok_and(|table| table.sections.len() > 1);
     hits.turned += u64::from(turned && answer.number == 5);

@@ -1,11 +1,13 @@
 //! The laws of demand 3 on generated tables, through the library's calls
 //! alone: joining means loading in turn, the join of three tables, and the
-//! swap of two sections. All tables of a case have one byte order, high first in
-//! about half of the cases and low first in the others.
+//! swap of two sections. Which addresses of kind 3 two tables both store is read
+//! from their sections by the reference. All tables of a case have one byte
+//! order, high first in about half of the cases and low first in the others.
 
 use second::calls;
 use second::cases::{self, Numbers, Regions, Section};
-use second::reference::ByteOrder;
+use second::reference::{self, ByteOrder, LoadAnswer, Record};
+use std::collections::HashSet;
 
 /// Generated cases of each law.
 const CASES: u64 = 60_000;
@@ -31,15 +33,56 @@ struct Table {
     bytes: Vec<u8>,
 }
 
+impl Table {
+    /// A table of sections with a generated entry.
+    fn of(
+        numbers: &mut Numbers,
+        regions: &Regions,
+        order: ByteOrder,
+        sections: Vec<Section>,
+    ) -> Table {
+        let entry = cases::entry(numbers, regions);
+        let bytes = cases::table_of(entry, &sections, order);
+        Table {
+            entry,
+            sections,
+            bytes,
+        }
+    }
+}
+
 fn made(numbers: &mut Numbers, regions: &Regions, order: ByteOrder) -> Table {
     let sections = cases::sections(numbers, regions);
-    let entry = cases::entry(numbers, regions);
-    let bytes = cases::table_of(entry, &sections, order);
-    Table {
-        entry,
-        sections,
-        bytes,
+    Table::of(numbers, regions, order, sections)
+}
+
+/// Two tables. Under a map with kind 3 half of the pairs share out the sections
+/// of one table, so that few addresses are stored by both.
+fn two_tables(numbers: &mut Numbers, regions: &Regions, order: ByteOrder) -> [Table; 2] {
+    if regions.once.is_empty() || numbers.once_in(2) {
+        return [(); 2].map(|()| made(numbers, regions, order));
     }
+    let mut parts = [Vec::new(), Vec::new()];
+    for section in cases::sections(numbers, regions) {
+        parts[numbers.index(2)].push(section);
+    }
+    parts.map(|sections| Table::of(numbers, regions, order, sections))
+}
+
+/// The addresses of a section that are of kind 3, or those that are not.
+fn stored(records: &[Record], section: &reference::Section, kind_3: bool) -> HashSet<u64> {
+    let end = section.address + section.data.len() as u64;
+    (section.address..end)
+        .filter(|address| reference::takes_one_write(records, *address) == kind_3)
+        .collect()
+}
+
+/// The addresses, of kind 3 or not, that a table stores.
+fn all_stored(records: &[Record], table: &reference::Table, kind_3: bool) -> HashSet<u64> {
+    let sections = table.sections.iter();
+    sections
+        .flat_map(|section| stored(records, section, kind_3))
+        .collect()
 }
 
 /// The join of two well-formed tables in an output with room; the output's
@@ -57,25 +100,45 @@ fn join(numbers: &mut Numbers, first: &[u8], second: &[u8], order: ByteOrder) ->
     (output, answer.sections)
 }
 
+/// How often each case of the first law happened.
+#[derive(Debug, Default)]
+struct Seen {
+    /// Accepted joins that change memory, of each order.
+    accepted: [u64; 2],
+    /// Accepted joins of two tables that both store addresses of kind 3, of each
+    /// order; and those of which an address that is not of kind 3 is stored by
+    /// both.
+    once: [u64; 2],
+    outside: u64,
+    /// Both tables are accepted and an address of kind 3 is stored by both, of
+    /// each order.
+    by_both: [u64; 2],
+    /// The first table is refused; only the second is.
+    refused: [u64; 2],
+    /// Of the joins with a refused table: an address of kind 3 is stored by both;
+    /// none is.
+    besides: [u64; 2],
+    /// The first table repeats an address by itself, the second does.
+    repeats: [u64; 2],
+    /// Both had pads that were not zero.
+    padded: u64,
+}
+
 #[test]
 fn joining_means_loading_in_turn() {
     let mut numbers = Numbers::new(cases::seed(), 30);
-    // Accepted joins of each order; refused ones by whether A or B is refused.
-    let mut accepted = [0; 2];
-    let mut refused = [0; 2];
-    let mut padded = 0;
+    let mut seen = Seen::default();
     for _ in 0..CASES {
         let regions = regions(&mut numbers);
         let order = numbers.order();
-        let a = made(&mut numbers, &regions, order);
-        let b = made(&mut numbers, &regions, order);
+        let [a, b] = two_tables(&mut numbers, &regions, order);
 
         // The join's bytes, pads as they stood, its length and its count.
         let (join, sections) = join(&mut numbers, &a.bytes, &b.bytes, order);
         let all = [&a.sections[..], &b.sections].concat();
         assert_eq!(join, cases::table_of(b.entry, &all, order));
         assert_eq!(sections, all.len() as u64);
-        padded += u64::from(has_nonzero_pads(&a.sections) && has_nonzero_pads(&b.sections));
+        seen.padded += u64::from(has_nonzero_pads(&a.sections) && has_nonzero_pads(&b.sections));
 
         // Loading the join and loading A start from the same memory; loading B
         // gets the memory that loading A left.
@@ -86,30 +149,69 @@ fn joining_means_loading_in_turn() {
         let one = calls::load(&regions.map, &a.bytes, order, &mut in_turn);
         let two = calls::load(&regions.map, &b.bytes, order, &mut in_turn);
 
-        // Accepted exactly when both are.
+        // The first section of B that stores an address of kind 3 which A stores.
+        let records = reference::read_map(&regions.map).expect("a sound map");
+        let [read_a, read_b] = [&a, &b]
+            .map(|table| reference::read_table(&table.bytes, order).expect("a well-formed table"));
+        let of_a = all_stored(&records, &read_a, true);
+        let shared = read_b
+            .sections
+            .iter()
+            .find(|section| !stored(&records, section, true).is_disjoint(&of_a));
+
+        // Accepted exactly when both are and no address of kind 3 is stored by
+        // both.
         let both = one.number == 0 && two.number == 0;
-        assert_eq!(whole.number == 0, both, "{one:?} {two:?} {whole:?}");
-        if both {
-            assert_eq!(at_once, in_turn);
-            assert_eq!(whole.entry, two.entry);
-            assert_eq!(whole.entry, u64::from(b.entry));
-            assert_eq!(whole.entry_open, two.entry_open);
-            assert_eq!(whole.sections, one.sections + two.sections);
-            assert_eq!(whole.bytes, one.bytes + two.bytes);
-            if at_once != before {
-                accepted[order as usize] += 1;
+        assert_eq!(
+            whole.number == 0,
+            both && shared.is_none(),
+            "{one:?} {two:?} {whole:?} {regions:02x?} {join:02x?}"
+        );
+        match (both, shared) {
+            (true, None) => {
+                assert_eq!(at_once, in_turn);
+                assert_eq!(whole.entry, two.entry);
+                assert_eq!(whole.entry, u64::from(b.entry));
+                assert_eq!(whole.entry_open, two.entry_open);
+                assert_eq!(whole.sections, one.sections + two.sections);
+                assert_eq!(whole.bytes, one.bytes + two.bytes);
+                seen.accepted[order as usize] += u64::from(at_once != before);
+                let of_b = all_stored(&records, &read_b, true);
+                if !of_a.is_empty() && !of_b.is_empty() {
+                    seen.once[order as usize] += 1;
+                    let [a, b] = [&read_a, &read_b].map(|read| all_stored(&records, read, false));
+                    seen.outside += u64::from(!a.is_disjoint(&b));
+                }
             }
-        } else {
-            assert_eq!(at_once, before);
-            refused[usize::from(one.number == 0)] += 1;
+            (true, Some(section)) => {
+                // B's sections stand behind those of A, and neither table repeats
+                // an address by itself.
+                let expected = LoadAnswer {
+                    number: 29,
+                    place: (a.bytes.len() - 8 + section.offset) as u64,
+                    ..Default::default()
+                };
+                assert_eq!(whole, expected);
+                assert_eq!(at_once, before);
+                seen.by_both[order as usize] += 1;
+            }
+            (false, shared) => {
+                assert_eq!(at_once, before);
+                seen.refused[usize::from(one.number == 0)] += 1;
+                seen.besides[usize::from(shared.is_none())] += 1;
+                seen.repeats[0] += u64::from(one.number == 29);
+                seen.repeats[1] += u64::from(two.number == 29);
+            }
         }
     }
-    // Memory changed, in each order; the first was refused, only the second was
-    // refused; both had pads that were not zero.
-    println!("in turn: {accepted:?} accepted, {refused:?} refused, {padded} with pads");
-    assert!(accepted.iter().all(|times| *times >= CASES / 20));
-    assert!(refused[0] >= CASES / 100 && refused[1] >= CASES / 100);
-    assert!(padded >= CASES / 2);
+    println!("in turn: {seen:?}");
+    assert!(seen.accepted.iter().all(|times| *times >= CASES / 20));
+    assert!(seen.refused.iter().all(|times| *times >= CASES / 100));
+    for times in [seen.once, seen.by_both, seen.besides, seen.repeats] {
+        assert!(times.iter().all(|times| *times >= CASES / 200), "{seen:?}");
+    }
+    assert!(seen.outside >= CASES / 1000);
+    assert!(seen.padded >= CASES / 2);
 }
 
 #[test]
@@ -195,6 +297,9 @@ fn the_swap_of_two_sections() {
     let mut numbers = Numbers::new(cases::seed(), 32);
     // Apart; sharing and agreeing; sharing and differing; of each order.
     let mut seen = [[0; 3]; 2];
+    // Under a map with kind 3: apart; sharing addresses of kind 1; refused, since
+    // they share one of kind 3; of each order.
+    let mut once = [[0; 3]; 2];
     // Both sections had pads, and not the same.
     let mut other_pads = 0;
     for _ in 0..CASES {
@@ -207,21 +312,35 @@ fn the_swap_of_two_sections() {
         let (count, agree) = shared(&one, &two);
         let padded = !one.pads.is_empty() && !two.pads.is_empty();
         let pads_differ = padded && one.pads != two.pads;
+        let behind_two = 12 + two.data.len() + two.pads.len();
         // The sections change places whole, pads included.
         let table = cases::table_of(entry, &[one.clone(), two.clone()], order);
         let swapped = cases::table_of(entry, &[two, one], order);
         let before = numbers.bytes(regions.memory_size() as usize);
         let mut memory = before.clone();
-        let mut other = before;
+        let mut other = before.clone();
         let answer = calls::load(&regions.map, &table, order, &mut memory);
+        let swapped = calls::load(&regions.map, &swapped, order, &mut other);
+        if answer.number == 29 {
+            // Whichever section is the second stores an address again.
+            let expected = LoadAnswer {
+                number: 29,
+                place: behind_two as u64,
+                ..Default::default()
+            };
+            assert_eq!(swapped, expected);
+            assert_eq!(other, before);
+            assert!(count > 0);
+            once[order as usize][2] += 1;
+        }
         if answer.number != 0 {
             continue;
         }
-        assert_eq!(
-            answer,
-            calls::load(&regions.map, &swapped, order, &mut other)
-        );
+        assert_eq!(answer, swapped);
         assert_eq!(memory == other, agree);
+        if !regions.once.is_empty() {
+            once[order as usize][usize::from(count > 0)] += 1;
+        }
         seen[order as usize][match (count, agree) {
             (0, _) => 0,
             (_, true) => 1,
@@ -229,9 +348,12 @@ fn the_swap_of_two_sections() {
         }] += 1;
         other_pads += u64::from(pads_differ);
     }
-    println!("swap: {seen:?}, {other_pads} with other pads");
+    println!("swap: {seen:?}, under kind 3 {once:?}, {other_pads} with other pads");
     for times in seen.as_flattened() {
         assert!(*times >= CASES / 100, "{seen:?}");
+    }
+    for times in once.as_flattened() {
+        assert!(*times >= CASES / 1000, "{once:?}");
     }
     assert!(other_pads >= CASES / 4);
 }
@@ -259,5 +381,36 @@ fn a_join_that_just_fits_is_loaded_in_turn() {
         assert_eq!((whole.entry, whole.sections), (2, 2));
         assert!(at_once == in_turn);
         assert!(at_once[half / 2..half / 2 + half] == two[..]);
+    }
+}
+
+#[test]
+fn a_join_that_just_fits_and_takes_one_write() {
+    // The same under kind 3: with an address in common, and with none, where the
+    // second section begins at the end of the first.
+    let half = 8_388_608 - 12;
+    let mut numbers = Numbers::new(cases::seed(), 34);
+    let one = numbers.bytes(half);
+    let two = numbers.bytes(half);
+    let map = cases::map(&[(3, 0x1000_0000, 16_777_216)]);
+    for order in ByteOrder::BOTH {
+        let a = cases::table(1, &[(0x1000_0000, &one)], order);
+        for (start, number, place) in [(half - 1, 29, 12 + half), (half, 0, 0)] {
+            let b = cases::table(2, &[(0x1000_0000 + start as u32, &two)], order);
+            let (join, _) = join(&mut numbers, &a, &b, order);
+            assert_eq!(join.len(), 16_777_216);
+            let before = vec![0x55; 16_777_216];
+            let mut at_once = before.clone();
+            let mut in_turn = before.clone();
+            let whole = calls::load(&map, &join, order, &mut at_once);
+            let first = calls::load(&map, &a, order, &mut in_turn);
+            let second = calls::load(&map, &b, order, &mut in_turn);
+            assert_eq!([first.number, second.number], [0; 2]);
+            assert_eq!((whole.number, whole.place), (number, place as u64));
+            assert!(in_turn[..start] == one[..start]);
+            assert!(in_turn[start..start + half] == two[..]);
+            let after = if number == 0 { &in_turn } else { &before };
+            assert!(at_once == *after);
+        }
     }
 }

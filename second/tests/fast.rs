@@ -3,14 +3,17 @@
 
 use second::cases::{self, LoadCase, Numbers};
 use second::reference::{ByteOrder, STRAP_LIMIT, TABLE_LIMIT, TOP};
-use second::{fast, reference};
+use second::{calls, fast, reference};
 
 /// The generated cases of each call.
 const CASES: u64 = 20_000;
 
+/// How often each number was answered; 29 is the highest.
+type Hits = [u64; 30];
+
 /// Each of these numbers must have been answered, and 6, which is withdrawn,
 /// never.
-fn all_hit(hits: &[u64; 20], numbers: &[usize]) {
+fn all_hit(hits: &Hits, numbers: &[usize]) {
     for number in numbers {
         assert!(hits[*number] > 0, "number {number} was never answered");
     }
@@ -19,7 +22,7 @@ fn all_hit(hits: &[u64; 20], numbers: &[usize]) {
 
 /// Compares map, judging and loading, and counts the number of loading in the
 /// case's order.
-fn compare_load(case: &LoadCase, hits: &mut [[u64; 20]; 2]) {
+fn compare_load(case: &LoadCase, hits: &mut [Hits; 2]) {
     assert_eq!(
         fast::map(&case.map),
         reference::map(&case.map),
@@ -45,12 +48,12 @@ fn compare_load(case: &LoadCase, hits: &mut [[u64; 20]; 2]) {
 #[test]
 fn judging_and_loading() {
     let mut numbers = Numbers::new(cases::seed(), 71);
-    let mut hits = [[0; 20]; 2];
+    let mut hits = [[0; 30]; 2];
     for _ in 0..CASES {
         compare_load(&cases::load_case(&mut numbers), &mut hits);
     }
     for hits in &hits {
-        all_hit(hits, &[0, 1, 2, 3, 5, 7, 8, 9]);
+        all_hit(hits, &[0, 1, 2, 3, 5, 7, 8, 9, 29]);
     }
 }
 
@@ -70,14 +73,17 @@ fn free_from(numbers: &mut Numbers, runs: &[(u64, u64)], wanted: u64, length: u6
     }
 }
 
-/// A map of up to 64 records in no order, reserved ones among them. They lie
-/// close to each other, so that they touch, and share addresses at times.
+/// A map of up to 64 records in no order, reserved ones and ones of kind 3 among
+/// them. They lie close to each other, so that they touch, and share addresses at
+/// times.
 fn crowded_map(numbers: &mut Numbers) -> cases::Regions {
     let room = numbers.pick(&[60, 600, 60_000]);
     let base = numbers.pick(&[0, 0x0080_0000, TOP - room]);
     let reserved = numbers.pick(&[2, 4, 1000]);
+    let kinds = numbers.pick(&[[1, 1], [1, 3], [3, 3]]);
     let mut records = Vec::new();
     let mut runs = Vec::new();
+    let mut once = Vec::new();
     for _ in 0..numbers.from_to(1, 64) {
         let wanted = base + numbers.below(room);
         let length = numbers.from_to(1, (TOP - wanted).min(8));
@@ -85,25 +91,38 @@ fn crowded_map(numbers: &mut Numbers) -> cases::Regions {
             records.push((2, wanted as u32, length as u32));
         } else {
             let first = free_from(numbers, &runs, wanted, length);
-            records.push((1, first as u32, length as u32));
+            let kind = numbers.pick(&kinds);
+            records.push((kind, first as u32, length as u32));
             runs.push((first, length));
+            if kind == 3 {
+                once.push((first, length));
+            }
         }
     }
     // A record that is wrong in itself, before or after one that shares.
     if numbers.once_in(20) {
         let at = numbers.index(records.len());
-        records[at] = numbers.pick(&[(3, 1, 1), (1, 1, 0), (2, 0xFFFF_FFFF, 2)]);
+        records[at] = numbers.pick(&[
+            (0, 1, 1),
+            (4, 1, 1),
+            (255, 1, 1),
+            (1, 1, 0),
+            (3, 1, 0),
+            (2, 0xFFFF_FFFF, 2),
+            (3, 0xFFFF_FFFF, 2),
+        ]);
     }
     cases::Regions {
         map: cases::map(&records),
         runs,
+        once,
     }
 }
 
 #[test]
 fn crowded_maps() {
     let mut numbers = Numbers::new(cases::seed(), 74);
-    let mut hits = [[0; 20]; 2];
+    let mut hits = [[0; 30]; 2];
     for _ in 0..CASES {
         let regions = crowded_map(&mut numbers);
         let order = numbers.order();
@@ -118,16 +137,99 @@ fn crowded_maps() {
         compare_load(&case, &mut hits);
     }
     for hits in &hits {
-        all_hit(hits, &[0, 2, 9]);
+        all_hit(hits, &[0, 2, 9, 29]);
         // Often sound, often not.
         assert!(hits[0] > CASES / 20 && hits[2] > CASES / 20, "{hits:?}");
+    }
+}
+
+/// Up to 64 records of kinds 1 and 3 that touch or have gaps between them, in no
+/// order, with the lowest of their addresses and one past the highest.
+fn wide_map(numbers: &mut Numbers) -> (Vec<(u8, u32, u32)>, u32, u32) {
+    let start = numbers.pick(&[0, 0x0080_0000, 0xFFFF_E000]);
+    let mut at = start;
+    let mut records = Vec::new();
+    for _ in 0..numbers.from_to(1, 64) {
+        let length = numbers.from_to(1, 100) as u32;
+        records.push((numbers.pick(&[1, 3]), at, length));
+        at += length + numbers.pick(&[0, 0, 0, 5]);
+    }
+    // The gap after the last record is left out.
+    let (_, first, length) = records[records.len() - 1];
+    numbers.shuffle(&mut records);
+    (records, start, first + length)
+}
+
+/// Tables of many sections under records of kinds 1 and 3, in rising, falling and
+/// mixed order. Each address is stored once, but for up to 30 that one-byte
+/// sections store again, at any places in the table.
+#[test]
+fn many_sections() {
+    let mut numbers = Numbers::new(cases::seed(), 76);
+    let mut hits = [[0; 30]; 2];
+    // By order of the sections: rising, falling, mixed; accepted and 29.
+    let mut seen = [[0; 2]; 3];
+    for _ in 0..CASES / 10 {
+        let (records, start, end) = wide_map(&mut numbers);
+        let map = cases::map(&records);
+        let read = reference::read_map(&map).expect("a sound map");
+        // Pieces of up to `longest` addresses, all open.
+        let longest = numbers.pick(&[1, 3, 40]);
+        let mut list = Vec::new();
+        let mut at = start;
+        while at < end {
+            let wanted = numbers.from_to(1, longest) as u32;
+            let open = |address: &u32| reference::is_open(&read, u64::from(*address));
+            let size = (at..end.min(at + wanted)).take_while(open).count();
+            if size > 0 {
+                list.push((at, numbers.bytes(size)));
+            }
+            at += (size as u32).max(1);
+        }
+        let manner = numbers.index(3);
+        match manner {
+            0 => {}
+            1 => list.reverse(),
+            _ => numbers.shuffle(&mut list),
+        }
+        // Bytes that are stored again.
+        for _ in 0..numbers.pick(&[0, 0, 1, 2, 30]) {
+            let again = numbers.from_to(u64::from(start), u64::from(end) - 1) as u32;
+            if reference::is_open(&read, u64::from(again)) {
+                let spot = numbers.index(list.len() + 1);
+                list.insert(spot, (again, vec![numbers.byte()]));
+            }
+        }
+        let sections: Vec<(u32, &[u8])> = list.iter().map(|(at, data)| (*at, &data[..])).collect();
+        let order = numbers.order();
+        let case = LoadCase {
+            table: cases::table(start, &sections, order),
+            order,
+            memory: numbers.bytes(reference::map(&map).bytes as usize),
+            map,
+        };
+        let before = hits[order as usize];
+        compare_load(&case, &mut hits);
+        // The library too, since no other test has so many sections in no order.
+        let judged = calls::judge(&case.map, &case.table, order);
+        assert_eq!(judged, reference::judge(&case.map, &case.table, order));
+        let hits = &hits[order as usize];
+        seen[manner][0] += hits[0] - before[0];
+        seen[manner][1] += hits[29] - before[29];
+    }
+    println!("many sections: {seen:?}");
+    for hits in &hits {
+        all_hit(hits, &[0, 29]);
+    }
+    for times in seen.as_flattened() {
+        assert!(*times > CASES / 200, "{seen:?}");
     }
 }
 
 #[test]
 fn joining() {
     let mut numbers = Numbers::new(cases::seed(), 72);
-    let mut hits = [[0; 20]; 2];
+    let mut hits = [[0; 30]; 2];
     for _ in 0..CASES {
         let case = cases::join_case(&mut numbers);
         let mut output = case.output.clone();
@@ -149,7 +251,7 @@ fn joining() {
 #[test]
 fn configuring() {
     let mut numbers = Numbers::new(cases::seed(), 73);
-    let mut hits = [0; 20];
+    let mut hits = [0; 30];
     for _ in 0..CASES {
         let case = cases::config_case(&mut numbers);
         let mut values = case.values.clone();
@@ -167,7 +269,7 @@ fn configuring() {
 }
 
 /// Compares the strap calls on a value and on a pair of values.
-fn compare_strap(value: u32, other: u32, hits: &mut [u64; 20]) {
+fn compare_strap(value: u32, other: u32, hits: &mut Hits) {
     for strict in [false, true] {
         let answer = fast::strap(value, strict);
         assert_eq!(answer, reference::strap(value, strict), "strap {value}");
@@ -195,7 +297,7 @@ fn compare_strap(value: u32, other: u32, hits: &mut [u64; 20]) {
 #[test]
 fn straps() {
     let mut numbers = Numbers::new(cases::seed(), 75);
-    let mut hits = [0; 20];
+    let mut hits = [0; 30];
     for value in 0..=STRAP_LIMIT {
         compare_strap(value, value, &mut hits);
         for bit in 0..14 {
@@ -245,5 +347,28 @@ fn at_the_limit() {
             assert!(output == expected, "output, {less} less");
             assert_eq!(answer.number, if less < 24 { 10 } else { 0 });
         }
+    }
+}
+
+/// As many sections of one byte as the limit takes, in no order, under kind 3;
+/// then the last one has the address of the first.
+#[test]
+fn one_write_at_the_limit() {
+    let count = (TABLE_LIMIT - 8) / 12;
+    let map = cases::map(&[(3, 0x0080_0000, count as u32)]);
+    let mut numbers = Numbers::new(cases::seed(), 77);
+    let mut addresses: Vec<u32> = (0..count as u32).map(|i| 0x0080_0000 + i).collect();
+    numbers.shuffle(&mut addresses);
+    for (last, number, place) in [
+        (addresses[count - 1], 0, 0),
+        (addresses[0], 29, 4 + 12 * (count as u64 - 1)),
+    ] {
+        addresses[count - 1] = last;
+        let order = numbers.order();
+        let sections: Vec<(u32, &[u8])> = addresses.iter().map(|at| (*at, &[7][..])).collect();
+        let table = cases::table(0, &sections, order);
+        let answer = fast::judge(&map, &table, order);
+        assert_eq!(answer, reference::judge(&map, &table, order));
+        assert_eq!((answer.number, answer.place), (number, place));
     }
 }

@@ -1,6 +1,6 @@
 //! Cases by name: the bench cards, what students write first, and bad inputs
 //! one by one. Expected values are written by hand from document 01 as requests
-//! 2, 7 and 8 of document 02 mend it, and both the library and the reference
+//! 2, 7, 8 and 10 of document 02 mend it, and both the library and the reference
 //! must give them. Cases over boot tables are run in both byte orders: cards 1
 //! to 3 high first, with `p_and_q_low_first` and `p_and_q_joined_low_first` as
 //! their counterparts low first.
@@ -18,6 +18,8 @@ use second::{calls, reference};
 
 // Map M and table Q of the bench cards.
 const M: [u8; 12] = [0x52, 0x47, 1, 0, 0, 0x80, 0, 0, 0, 0, 0, 0x10];
+/// M with kind 3.
+const M_3: [u8; 12] = [0x52, 0x47, 3, 0, 0, 0x80, 0, 0, 0, 0, 0, 0x10];
 const Q: [u8; 20] = [
     0, 0x80, 0, 4, 0, 0, 0, 1, 0, 0x80, 0, 4, 0xB7, 0, 0, 0, 0, 0, 0, 0,
 ];
@@ -702,8 +704,8 @@ fn a_map_cut_at_every_length() {
 
 #[test]
 fn records_with_one_field_wrong() {
-    for kind in [1, 2] {
-        let sum = if kind == 1 { 20 } else { 16 };
+    for kind in [1, 2, 3] {
+        let sum = if kind == 2 { 16 } else { 20 };
         let around = |middle: &[u8]| [&M[..], middle, &record(1, 0x100, 0)].concat();
         let right = record(kind, 0x0090_0000, 4);
         map_gives(&[&M[..], &right].concat(), 0, 0, sum);
@@ -712,7 +714,7 @@ fn records_with_one_field_wrong() {
         for (at, allowed) in [
             (0, vec![0x52]),
             (1, vec![0x47]),
-            (2, vec![1, 2]),
+            (2, vec![1, 2, 3]),
             (3, vec![0]),
         ] {
             for byte in 0..=255 {
@@ -1762,6 +1764,635 @@ fn data_and_pads_are_never_reordered() {
         assert_eq!(result[12..16], [1, 2, 3, 4]);
         assert_eq!(result[24..32], [5, 6, 7, 8, 9, 10, 11, 12]);
         assert_eq!(result[40..44], [13, 14, 0xF1, 0xF2]);
+    }
+}
+
+// Memory that takes one write.
+
+/// Address and data of a section.
+type Section<'a> = (u32, &'a [u8]);
+/// The sections of a table.
+type Sections<'a> = &'a [Section<'a>];
+
+/// A table is accepted in both orders, with entry 0, which is not open, and
+/// `MEMORY` changes at these places.
+fn stores(map: &[u8], sections: Sections, bytes: u64, changes: &[(usize, u8)]) {
+    let answer = accepted(0, 0, sections.len() as u64, bytes);
+    for order in ByteOrder::BOTH {
+        let bytes = table(0, sections, order);
+        load_gives(map, &bytes, order, &MEMORY, answer, &with(changes));
+    }
+}
+
+/// A table is refused in both orders.
+fn refuses(map: &[u8], sections: Sections, answer: LoadAnswer) {
+    for order in ByteOrder::BOTH {
+        let bytes = table(0, sections, order);
+        load_refuses(map, &bytes, order, &MEMORY, answer);
+    }
+}
+
+/// A table is refused with 29 in both orders, at this place.
+fn repeats(map: &[u8], sections: Sections, place: u64) {
+    refuses(map, sections, refused(29, place));
+}
+
+#[test]
+fn one_write_p_and_q() {
+    for order in ByteOrder::BOTH {
+        let after_p = with(&[(2, 0xA1), (3, 0xA2), (4, 0xA3)]);
+        let answer = accepted(0x0080_0000, 1, 1, 3);
+        load_gives(&M_3, p(order), order, &MEMORY, answer, &after_p);
+        load_gives(&M_3, p_01(order), order, &MEMORY, answer, &after_p);
+        let after_q = with(&[(4, 0xB7)]);
+        let answer = accepted(0x0080_0004, 1, 1, 1);
+        load_gives(&M_3, q(order), order, &MEMORY, answer, &after_q);
+    }
+}
+
+#[test]
+fn one_write_p_joined_with_q_both_ways() {
+    for order in ByteOrder::BOTH {
+        // The join needs no map and succeeds; Q's section stands at 16.
+        let result = written(
+            [
+                0, 0x80, 0, 4, 0, 0, 0, 3, 0, 0x80, 0, 2, 0xA1, 0xA2, 0xA3, 0, 0, 0, 0, 1, 0, 0x80,
+                0, 4, 0xB7, 0, 0, 0, 0, 0, 0, 0,
+            ],
+            &[0, 4, 8, 16, 20],
+            order,
+        );
+        let answer = joined(32, 2);
+        join_gives(p(order), q(order), order, &[0xEE; 32], answer, &result);
+        load_refuses(&M_3, &result, order, &MEMORY, refused(29, 16));
+        // P's section stands at 16.
+        let result = written(
+            [
+                0, 0x80, 0, 0, 0, 0, 0, 1, 0, 0x80, 0, 4, 0xB7, 0, 0, 0, 0, 0, 0, 3, 0, 0x80, 0, 2,
+                0xA1, 0xA2, 0xA3, 0, 0, 0, 0, 0,
+            ],
+            &[0, 4, 8, 16, 20],
+            order,
+        );
+        join_gives(q(order), p(order), order, &[0xEE; 32], answer, &result);
+        load_refuses(&M_3, &result, order, &MEMORY, refused(29, 16));
+        // A table joined with itself.
+        let twice = [&p(order)[..16], &p(order)[4..]].concat();
+        join_gives(p(order), p(order), order, &[0xEE; 32], answer, &twice);
+        load_refuses(&M_3, &twice, order, &MEMORY, refused(29, 16));
+    }
+}
+
+#[test]
+fn separate_loads_start_afresh() {
+    for order in ByteOrder::BOTH {
+        for (name, _, load) in LOADS {
+            let mut memory = MEMORY;
+            for (bytes, answer, changes) in [
+                (p(order), accepted(0x0080_0000, 1, 1, 3), [0xA1, 0xA2, 0xA3]),
+                (q(order), accepted(0x0080_0004, 1, 1, 1), [0xA1, 0xA2, 0xB7]),
+                (q(order), accepted(0x0080_0004, 1, 1, 1), [0xA1, 0xA2, 0xB7]),
+                (p(order), accepted(0x0080_0000, 1, 1, 3), [0xA1, 0xA2, 0xA3]),
+            ] {
+                assert_eq!(load(&M_3, bytes, order, &mut memory), answer, "{name}");
+                let mut after = MEMORY;
+                after[2..5].copy_from_slice(&changes);
+                assert_eq!(memory, after, "{name}");
+            }
+        }
+    }
+}
+
+#[test]
+fn kind_3_beside_kinds_that_are_none() {
+    for kind in (0..=255).filter(|kind| ![1, 2, 3].contains(kind)) {
+        let regions = map(&[(3, 0x0080_0000, 16), (kind, 0x0090_0000, 1)]);
+        map_gives(&regions, 2, 1, 0);
+        for order in ByteOrder::BOTH {
+            load_refuses(&regions, p(order), order, &MEMORY, refused(2, 1));
+        }
+        map_gives(&map(&[(kind, 5, 1), (3, 0x0080_0000, 16)]), 2, 0, 0);
+    }
+    // A kind 3 record has no other freedom: mark, zero byte, length, top.
+    map_gives(&[0x52, 0x46, 3, 0, 0, 0, 0, 1, 0, 0, 0, 1], 2, 0, 0);
+    map_gives(&[0x52, 0x47, 3, 3, 0, 0, 0, 1, 0, 0, 0, 1], 2, 0, 0);
+    map_gives(&map(&[(3, 1, 0)]), 2, 0, 0);
+    map_gives(&map(&[(3, 0xFFFF_FFFF, 2)]), 2, 0, 0);
+}
+
+#[test]
+fn kinds_1_and_3_touching_overlapping_equal() {
+    for (one, two) in [(3, 3), (3, 1), (1, 3)] {
+        map_gives(&map(&[(one, 100, 10), (two, 110, 5)]), 0, 0, 15);
+        map_gives(&map(&[(one, 110, 5), (two, 100, 10)]), 0, 0, 15);
+        map_gives(&map(&[(one, 100, 10), (two, 109, 5)]), 2, 1, 0);
+        map_gives(&map(&[(one, 109, 5), (two, 100, 10)]), 2, 1, 0);
+        map_gives(&map(&[(one, 100, 10), (two, 100, 10)]), 2, 1, 0);
+        map_gives(&map(&[(one, 100, 10), (two, 104, 1)]), 2, 1, 0);
+        map_gives(&map(&[(one, 104, 1), (two, 100, 10)]), 2, 1, 0);
+        // Not the neighbour but the first of three; then none.
+        for middle in [1, 3] {
+            let shared = map(&[(one, 100, 10), (middle, 200, 10), (two, 95, 6)]);
+            map_gives(&shared, 2, 2, 0);
+            let apart = map(&[(one, 100, 10), (middle, 200, 10), (two, 95, 5)]);
+            map_gives(&apart, 0, 0, 25);
+        }
+        // A reserved record between them takes no part in this.
+        let between = map(&[(one, 100, 10), (2, 95, 30), (two, 110, 1)]);
+        map_gives(&between, 0, 0, 11);
+        map_gives(&map(&[(one, 100, 10), (2, 95, 30), (two, 109, 1)]), 2, 2, 0);
+    }
+    for order in ByteOrder::BOTH {
+        let shared = map(&[(1, 0x0080_0000, 8), (3, 0x0080_0007, 8)]);
+        load_refuses(&shared, p(order), order, &MEMORY, refused(2, 1));
+    }
+}
+
+#[test]
+fn reserved_records_over_kind_3() {
+    // Before and behind it, over a part, all of it and more.
+    for reserved in [(2, 100, 1), (2, 109, 1), (2, 90, 50), (2, 100, 10)] {
+        map_gives(&map(&[(3, 100, 10), reserved]), 0, 0, 10);
+        map_gives(&map(&[reserved, (3, 100, 10)]), 0, 0, 10);
+    }
+    let hole = map(&[(3, 0x0080_0000, 16), (2, 0x0080_0003, 1)]);
+    let first = map(&[(2, 0x0080_0003, 1), (3, 0x0080_0000, 16)]);
+    for regions in [hole, first] {
+        for order in ByteOrder::BOTH {
+            let closed = not_open(9, 4, 0x0080_0003);
+            load_refuses(&regions, p(order), order, &MEMORY, closed);
+            // The entry is not open where the reserved record lies.
+            let none = table(0x0080_0003, &[], order);
+            let answer = accepted(0x0080_0003, 0, 0, 0);
+            load_gives(&regions, &none, order, &MEMORY, answer, &MEMORY);
+        }
+        // A repeated address beside the hole, and the hole in the third section,
+        // in the first, and in both that share an address.
+        let (five, again): (Section, Section) = ((0x0080_0005, &[1]), (0x0080_0005, &[2]));
+        let over: Section = (0x0080_0002, &[3, 4, 5]);
+        repeats(&regions, &[five, again], 16);
+        refuses(&regions, &[five, again, over], not_open(9, 28, 0x0080_0003));
+        refuses(&regions, &[over, five, again], not_open(9, 4, 0x0080_0003));
+        refuses(&regions, &[over, over], not_open(9, 4, 0x0080_0003));
+        refuses(&regions, &[five, over, again], not_open(9, 16, 0x0080_0003));
+    }
+}
+
+#[test]
+fn the_permitted_sum_of_kinds_1_and_3() {
+    let regions = map(&[
+        (3, 0x0080_0000, 4),
+        (2, 0x0080_0002, 9),
+        (1, 0x0080_0010, 5),
+        (3, 0x0080_0020, 7),
+    ]);
+    map_gives(&regions, 0, 0, 16);
+    let long = [&MEMORY[..], &[0x70]].concat();
+    for order in ByteOrder::BOTH {
+        let none = table(0x0080_0026, &[], order);
+        let answer = accepted(0x0080_0026, 1, 0, 0);
+        load_gives(&regions, &none, order, &MEMORY, answer, &MEMORY);
+        for memory in [&[], &MEMORY[..5], &MEMORY[..11], &MEMORY[..15], &long] {
+            load_refuses(&regions, &none, order, memory, refused(3, 0));
+        }
+    }
+    map_gives(&map(&[(3, 0xFFFF_FFFF, 1)]), 0, 0, 1);
+    map_gives(&map(&[(3, 1, 0xFFFF_FFFF)]), 0, 0, 0xFFFF_FFFF);
+    map_gives(&map(&[(3, 1, 0xFFFF_FFFF), (1, 0, 2)]), 2, 1, 0);
+    for (one, two) in [(3, 3), (3, 1), (1, 3)] {
+        let all = map(&[(one, 1, 0xFFFF_FFFF), (two, 0, 1)]);
+        map_gives(&all, 0, 0, 0x1_0000_0000);
+    }
+    let ones: Vec<(u8, u32, u32)> = (0..65)
+        .map(|i| (if i % 2 == 0 { 3 } else { 1 }, 0x1000 + 2 * i, 1))
+        .collect();
+    map_gives(&map(&ones[..64]), 0, 0, 64);
+    map_gives(&map(&ones), 1, 0, 0);
+}
+
+#[test]
+fn places_in_memory_under_kinds_1_and_3() {
+    // The records touch; whatever their kinds are, 8 to 11 come first in memory,
+    // then 0 to 3, 12 to 15, and 4 to 7.
+    let data: Vec<u8> = (0x80..0x90).collect();
+    let after = [&data[8..12], &data[..4], &data[12..], &data[4..8]].concat();
+    for kinds in 0..16 {
+        let kind = |bit: u32| if kinds >> bit & 1 == 1 { 3 } else { 1 };
+        let regions = map(&[
+            (kind(0), 0x0080_0008, 4),
+            (kind(1), 0x0080_0000, 4),
+            (2, 0x0070_0000, 0x0010_0000),
+            (kind(2), 0x0080_000C, 4),
+            (kind(3), 0x0080_0004, 4),
+        ]);
+        map_gives(&regions, 0, 0, 16);
+        for order in ByteOrder::BOTH {
+            // One section over all records; it repeats nothing by itself.
+            let whole = table(0x0080_000F, &[(0x0080_0000, &data)], order);
+            let answer = accepted(0x0080_000F, 1, 1, 16);
+            load_gives(&regions, &whole, order, &MEMORY, answer, &after);
+        }
+        // Two bytes on each side of an edge, and one byte elsewhere.
+        stores(
+            &regions,
+            &[(0x0080_0006, &[1, 2, 3, 4]), (0x0080_000F, &[5])],
+            5,
+            &[(14, 1), (15, 2), (0, 3), (1, 4), (11, 5)],
+        );
+    }
+}
+
+#[test]
+fn a_repeated_address_first_last_and_alone() {
+    // The first section stores 4 to 7.
+    let first: Section = (0x0080_0004, &[1, 2, 3, 4]);
+    let seconds: [Section; 10] = [
+        // Its first address is repeated, its last one is.
+        (0x0080_0007, &[5, 6, 7]),
+        (0x0080_0002, &[5, 6, 7]),
+        // Each address alone; an equal byte is a repeat too.
+        (0x0080_0004, &[1]),
+        (0x0080_0005, &[5]),
+        (0x0080_0006, &[5]),
+        (0x0080_0007, &[5]),
+        // The same addresses, some inside, and all with more around them.
+        (0x0080_0004, &[1, 2, 3, 4]),
+        (0x0080_0005, &[5, 6]),
+        (0x0080_0003, &[5, 6, 7, 8, 9, 10]),
+        (0x0080_0000, &[5; 16]),
+    ];
+    for second in seconds {
+        repeats(&M_3, &[first, second], 16);
+        let place = 12 + second.1.len().next_multiple_of(4) as u64;
+        repeats(&M_3, &[second, first], place);
+        // The second alone is accepted, and both are under M, without kind 3.
+        for order in ByteOrder::BOTH {
+            for (name, judge, _) in LOADS {
+                let alone = table(0, &[second], order);
+                let answer = accepted(0, 0, 1, second.1.len() as u64);
+                assert_eq!(judge(&M_3, &alone, order), answer, "{name}");
+                let both = table(0, &[first, second], order);
+                let answer = accepted(0, 0, 2, 4 + second.1.len() as u64);
+                assert_eq!(judge(&M, &both, order), answer, "{name}");
+            }
+        }
+    }
+}
+
+#[test]
+fn sections_that_touch_repeat_nothing() {
+    let first: Section = (0x0080_0004, &[1, 2, 3, 4]);
+    let stored = [(4, 1), (5, 2), (6, 3), (7, 4)];
+    let ends: [(Section, &[(usize, u8)]); 4] = [
+        ((0x0080_0008, &[5]), &[(8, 5)]),
+        ((0x0080_0008, &[5, 6]), &[(8, 5), (9, 6)]),
+        ((0x0080_0003, &[5]), &[(3, 5)]),
+        ((0x0080_0002, &[5, 6]), &[(2, 5), (3, 6)]),
+    ];
+    for (second, changes) in ends {
+        let bytes = 4 + second.1.len() as u64;
+        let after = [&stored[..], changes].concat();
+        stores(&M_3, &[first, second], bytes, &after);
+        stores(&M_3, &[second, first], bytes, &after);
+    }
+    // One that fits between two others, stored last.
+    let parts: [Section; 3] = [
+        (0x0080_0002, &[5, 6]),
+        (0x0080_0008, &[7]),
+        (0x0080_0004, &[1, 2, 3, 4]),
+    ];
+    let after = [&stored[..], &[(2, 5), (3, 6), (8, 7)]].concat();
+    stores(&M_3, &parts, 7, &after);
+    // Pads are no addresses of a section: size 1 at 4 does not reach 5 to 7.
+    for order in ByteOrder::BOTH {
+        let sections: [(u32, &[u8], &[u8]); 2] = [
+            (0x0080_0004, &[1], &[9, 9, 9]),
+            (0x0080_0005, &[2, 3, 4], &[9]),
+        ];
+        for sections in [sections, [sections[1], sections[0]]] {
+            let bytes = padded_table(0, &sections, order);
+            let answer = accepted(0, 0, 2, 4);
+            load_gives(&M_3, &bytes, order, &MEMORY, answer, &with(&stored));
+        }
+    }
+    // The entry is no stored address.
+    for order in ByteOrder::BOTH {
+        let bytes = table(0x0080_0004, &[first], order);
+        let answer = accepted(0x0080_0004, 1, 1, 4);
+        load_gives(&M_3, &bytes, order, &MEMORY, answer, &with(&stored));
+    }
+}
+
+#[test]
+fn the_first_section_that_repeats() {
+    let a: Section = (0x0080_0000, &[1, 2]);
+    let b: Section = (0x0080_0004, &[3, 4]);
+    let c: Section = (0x0080_0008, &[5, 6]);
+    let d: Section = (0x0080_000C, &[7, 8]);
+    // Each section takes 12 bytes: they stand at 4, 16, 28, 40 and 52.
+    let repeats_at = |list: Sections, place| repeats(&M_3, list, place);
+    // The third repeats the first.
+    repeats_at(&[a, b, a], 28);
+    repeats_at(&[b, a, b], 28);
+    repeats_at(&[a, c, b, a], 40);
+    // An address that is stored three times and more.
+    repeats_at(&[a, a, a], 16);
+    repeats_at(&[a, a, a, a], 16);
+    repeats_at(&[a, b, b, b], 28);
+    // Two repeats, of which the first in table order is answered, whichever of
+    // the addresses is lower.
+    repeats_at(&[a, b, a, b], 28);
+    repeats_at(&[a, b, b, a], 28);
+    repeats_at(&[b, a, b, a], 28);
+    repeats_at(&[b, a, a, b], 28);
+    repeats_at(&[a, b, c, c, a], 40);
+    repeats_at(&[c, b, a, c, a], 40);
+    // Rising, falling and mixed, the last repeats.
+    for last in [a, b, c, d] {
+        repeats_at(&[a, b, c, d, last], 52);
+        repeats_at(&[d, c, b, a, last], 52);
+        repeats_at(&[b, d, a, c, last], 52);
+    }
+    // Without it all are stored.
+    let all = [
+        (0, 1),
+        (1, 2),
+        (4, 3),
+        (5, 4),
+        (8, 5),
+        (9, 6),
+        (12, 7),
+        (13, 8),
+    ];
+    for list in [[a, b, c, d], [d, c, b, a], [b, d, a, c]] {
+        stores(&M_3, &list, 8, &all);
+    }
+    // One section that repeats addresses of two earlier ones.
+    let over: Section = (0x0080_0001, &[9, 9, 9, 9]);
+    repeats(&M_3, &[a, b, over], 28);
+    repeats(&M_3, &[a, over, b], 16);
+    repeats(&M_3, &[over, a, b], 16);
+    // One that lies between two others and repeats neither.
+    let between: Section = (0x0080_0002, &[9, 9]);
+    let after = [(0, 1), (1, 2), (4, 3), (5, 4), (2, 9), (3, 9)];
+    stores(&M_3, &[a, b, between], 6, &after);
+    stores(&M_3, &[b, between, a], 6, &after);
+}
+
+#[test]
+fn a_section_over_kinds_3_and_1_that_touch() {
+    // 0 to 7 take one write, 8 to 15 are of kind 1.
+    let (low, high) = ((3, 0x0080_0000, 8), (1, 0x0080_0008, 8));
+    // Places in memory where the records rise in the map, and where they fall.
+    for (regions, at) in [(map(&[low, high]), [0, 8]), (map(&[high, low]), [8, 0])] {
+        let place = |address: usize| at[address / 8] + address % 8;
+        let over: Section = (0x0080_0006, &[1, 2, 3, 4]);
+        let stored = [(place(6), 1), (place(7), 2), (place(8), 3), (place(9), 4)];
+        stores(&regions, &[over], 4, &stored);
+        // They share addresses of kind 1 alone: the later one wins.
+        let nine: Section = (0x0080_0009, &[5, 6]);
+        let won = [&stored[..3], &[(place(9), 5), (place(10), 6)]].concat();
+        stores(&regions, &[over, nine], 6, &won);
+        let kept = [&stored[..], &[(place(10), 6)]].concat();
+        stores(&regions, &[nine, over], 6, &kept);
+        let eight: Section = (0x0080_0008, &[5, 6]);
+        let won = [&stored[..2], &[(place(8), 5), (place(9), 6)]].concat();
+        stores(&regions, &[over, eight], 6, &won);
+        stores(&regions, &[eight, over], 6, &stored);
+        // Thrice, and beside a section that touches the first in kind 3.
+        let five: Section = (0x0080_0005, &[7]);
+        let won = [&won[..], &[(place(5), 7)]].concat();
+        stores(&regions, &[over, eight, five, eight], 9, &won);
+        // They share an address of kind 3 alone, and of both kinds.
+        repeats(&regions, &[over, (0x0080_0007, &[5])], 16);
+        repeats(&regions, &[over, (0x0080_0005, &[5, 6])], 16);
+        repeats(&regions, &[over, (0x0080_0007, &[5, 6])], 16);
+        repeats(&regions, &[over, over], 16);
+        // The first repeat is of kind 1 and is none.
+        repeats(&regions, &[over, nine, (0x0080_0006, &[5]), over], 28);
+    }
+}
+
+#[test]
+fn a_section_over_kinds_1_and_3_that_touch() {
+    // 0 to 7 are of kind 1, 8 to 15 take one write.
+    let regions = map(&[(1, 0x0080_0000, 8), (3, 0x0080_0008, 8)]);
+    let over: Section = (0x0080_0006, &[1, 2, 3, 4]);
+    let won = [(4, 5), (5, 6), (6, 7), (7, 8), (8, 3), (9, 4)];
+    stores(&regions, &[over, (0x0080_0004, &[5, 6, 7, 8])], 8, &won);
+    repeats(&regions, &[over, (0x0080_0004, &[5, 6, 7, 8, 9])], 16);
+    repeats(&regions, &[over, (0x0080_0008, &[5])], 16);
+    repeats(&regions, &[over, (0x0080_0009, &[5, 6, 7])], 16);
+    let after = [(6, 1), (7, 2), (8, 3), (9, 4), (10, 5)];
+    stores(&regions, &[over, (0x0080_000A, &[5])], 5, &after);
+    // A record of kind 1 in the middle of two of kind 3, all of them touching.
+    let middle = map(&[
+        (3, 0x0080_0000, 4),
+        (1, 0x0080_0004, 4),
+        (3, 0x0080_0008, 8),
+    ]);
+    let whole: Section = (0x0080_0002, &[1, 2, 3, 4, 5, 6, 7, 8]);
+    let after = [
+        (2, 1),
+        (3, 2),
+        (4, 9),
+        (5, 9),
+        (6, 9),
+        (7, 9),
+        (8, 7),
+        (9, 8),
+    ];
+    stores(&middle, &[whole, (0x0080_0004, &[9; 4])], 12, &after);
+    repeats(&middle, &[whole, (0x0080_0003, &[9; 5])], 20);
+    repeats(&middle, &[whole, (0x0080_0004, &[9; 5])], 20);
+    // Two records of kind 3 that touch.
+    let both = map(&[(3, 0x0080_0008, 8), (3, 0x0080_0000, 8)]);
+    stores(&both, &[over], 4, &[(14, 1), (15, 2), (0, 3), (1, 4)]);
+    repeats(&both, &[over, (0x0080_0007, &[5])], 16);
+    repeats(&both, &[over, (0x0080_0008, &[5])], 16);
+}
+
+#[test]
+fn an_overlap_outside_kind_3_is_no_repeat() {
+    // Kind 3 is above the record of kind 1; below, it is on both sides of it in
+    // the map.
+    let regions = map(&[(1, 0x0080_0000, 12), (3, 0x0080_0010, 4)]);
+    let shared: [Section; 4] = [
+        (0x0080_0004, &[1, 1, 1, 1]),
+        (0x0080_0002, &[2, 2, 2]),
+        (0x0080_0006, &[3]),
+        (0x0080_0004, &[4]),
+    ];
+    let after = [(2, 2), (3, 2), (4, 4), (5, 1), (6, 3), (7, 1)];
+    stores(&regions, &shared, 9, &after);
+    let before = map(&[(3, 0x0070_0000, 2), (1, 0x0080_0000, 12), (3, 0, 2)]);
+    let further: Vec<(usize, u8)> = after.iter().map(|(at, byte)| (at + 2, *byte)).collect();
+    for order in ByteOrder::BOTH {
+        let bytes = table(0x0080_0000, &shared, order);
+        let answer = accepted(0x0080_0000, 1, 4, 9);
+        load_gives(&before, &bytes, order, &MEMORY, answer, &with(&further));
+    }
+    // The same with one section in kind 3, with two, and with one that repeats.
+    let first: Section = (0x0080_0010, &[5, 6]);
+    let list = [&[first], &shared[..]].concat();
+    let stored = [&after[..], &[(12, 5), (13, 6)]].concat();
+    stores(&regions, &list, 11, &stored);
+    let list = [&list[..], &[(0x0080_0012, &[7])]].concat();
+    let stored = [&stored[..], &[(14, 7)]].concat();
+    stores(&regions, &list, 12, &stored);
+    repeats(&regions, &[&list[..], &[(0x0080_0011, &[8])]].concat(), 76);
+}
+
+#[test]
+fn a_repeat_comes_after_the_map_memory_form_and_map_rule() {
+    let twice: [Section; 2] = [(0x0080_0002, &[1]), (0x0080_0002, &[2])];
+    repeats(&M_3, &twice, 16);
+    // 9 in a later section, in an earlier one, and in the one that repeats.
+    let closed: Section = (0x0080_0010, &[3]);
+    let [one, two] = twice;
+    refuses(&M_3, &[one, two, closed], not_open(9, 28, 0x0080_0010));
+    refuses(&M_3, &[closed, one, two], not_open(9, 4, 0x0080_0010));
+    let across: Section = (0x0080_000E, &[4, 5, 6]);
+    let last: Section = (0x0080_000F, &[4]);
+    refuses(&M_3, &[last, across], not_open(9, 16, 0x0080_0010));
+    refuses(&M_3, &[one, two, one, closed], not_open(9, 40, 0x0080_0010));
+    // Two closed ones: the first of them.
+    refuses(
+        &M_3,
+        &[one, two, across, closed],
+        not_open(9, 28, 0x0080_0010),
+    );
+    // 8 in a later section.
+    refuses(&M_3, &[one, two, (0xFFFF_FFFF, &[3, 4])], refused(8, 28));
+    for order in ByteOrder::BOTH {
+        let bytes = table(0, &twice, order);
+        assert_eq!(bytes.len(), 32);
+        // 5 where the repeating section is cut, and where the zero word is.
+        for length in 16..32 {
+            let place = if length < 28 { 16 } else { 28 };
+            load_refuses(&M_3, &bytes[..length], order, &MEMORY, refused(5, place));
+        }
+        // 7 behind the zero word.
+        for more in [0, 1, 0xFF] {
+            let longer = [&bytes[..], &[more]].concat();
+            load_refuses(&M_3, &longer, order, &MEMORY, refused(7, 32));
+        }
+        // 4, 3, 2 and 1.
+        let mut large = bytes.clone();
+        large.resize(TABLE_LIMIT + 1, 0);
+        load_refuses(&M_3, &large, order, &MEMORY, refused(4, 0));
+        load_refuses(&M_3, &bytes, order, &MEMORY[..15], refused(3, 0));
+        load_refuses(&M_3, &bytes, order, &[], refused(3, 0));
+        let unsound = map(&[(3, 0x0080_0000, 16), (3, 0x0080_000F, 1)]);
+        load_refuses(&unsound, &bytes, order, &MEMORY, refused(2, 1));
+        load_refuses(&M_3[..11], &bytes, order, &MEMORY, refused(1, 0));
+        // The join has no such refusal.
+        let result = [&q(order)[..4], &bytes[4..28], &q(order)[4..]].concat();
+        join_gives(&bytes, q(order), order, &[0xEE; 44], joined(44, 3), &result);
+    }
+}
+
+#[test]
+fn one_write_at_the_top_and_at_zero() {
+    let top = map(&[(3, 0xFFFF_FFF0, 16)]);
+    stores(&top, &[(0xFFFF_FFFF, &[1])], 1, &[(15, 1)]);
+    repeats(&top, &[(0xFFFF_FFFF, &[1]), (0xFFFF_FFFF, &[2])], 16);
+    repeats(
+        &top,
+        &[(0xFFFF_FFFC, &[1, 2, 3, 4]), (0xFFFF_FFFF, &[2])],
+        16,
+    );
+    repeats(
+        &top,
+        &[(0xFFFF_FFFF, &[2]), (0xFFFF_FFFC, &[1, 2, 3, 4])],
+        16,
+    );
+    refuses(
+        &top,
+        &[(0xFFFF_FFFF, &[1]), (0xFFFF_FFFF, &[2, 3])],
+        refused(8, 16),
+    );
+    let touching: [Section; 2] = [(0xFFFF_FFFF, &[2]), (0xFFFF_FFFD, &[3, 4])];
+    stores(&top, &touching, 3, &[(13, 3), (14, 4), (15, 2)]);
+    // The whole record, and then its first and its last address.
+    repeats(&top, &[(0xFFFF_FFF0, &[1; 16]), (0xFFFF_FFF0, &[2])], 28);
+    repeats(&top, &[(0xFFFF_FFF0, &[1; 16]), (0xFFFF_FFFF, &[2])], 28);
+    for order in ByteOrder::BOTH {
+        // Zero and the top are no neighbours. The entry, 0, is open.
+        let ends = map(&[(3, 0xFFFF_FFFF, 1), (3, 0, 4)]);
+        let bytes = table(0, &[(0xFFFF_FFFF, &[1]), (0, &[2]), (1, &[3])], order);
+        let after = [1, 2, 3, 0x63, 0x64];
+        let answer = accepted(0, 1, 3, 3);
+        load_gives(&ends, &bytes, order, &MEMORY[..5], answer, &after);
+        let again = table(0, &[(0xFFFF_FFFF, &[1]), (0, &[2]), (0, &[3])], order);
+        load_refuses(&ends, &again, order, &MEMORY[..5], refused(29, 28));
+        // All addresses take one write: such memory is only judged.
+        let all = map(&[(3, 1, 0xFFFF_FFFF), (3, 0, 1)]);
+        for (name, judge, _) in LOADS {
+            let answer = judge(&all, &bytes, order);
+            assert_eq!(answer, accepted(0, 1, 3, 3), "{name}");
+            assert_eq!(judge(&all, &again, order), refused(29, 28), "{name}");
+        }
+    }
+}
+
+#[test]
+fn one_write_without_sections() {
+    for order in ByteOrder::BOTH {
+        let none = table(0x0080_000F, &[], order);
+        let answer = accepted(0x0080_000F, 1, 0, 0);
+        load_gives(&M_3, &none, order, &MEMORY, answer, &MEMORY);
+        // Joined with P on either side it stores nothing more.
+        let after = with(&[(2, 0xA1), (3, 0xA2), (4, 0xA3)]);
+        let output = [0xEE; 20];
+        join_gives(&none, p(order), order, &output, joined(20, 1), p(order));
+        let answer = accepted(0x0080_0000, 1, 1, 3);
+        load_gives(&M_3, p(order), order, &MEMORY, answer, &after);
+        let mut result = *p(order);
+        result[..4].copy_from_slice(&header_word(0x0080_000F, order));
+        join_gives(p(order), &none, order, &output, joined(20, 1), &result);
+        let answer = accepted(0x0080_000F, 1, 1, 3);
+        load_gives(&M_3, &result, order, &MEMORY, answer, &after);
+    }
+}
+
+#[test]
+fn one_write_and_as_many_sections_as_the_limit_takes() {
+    let count = (TABLE_LIMIT - 8) / 12;
+    let regions = map(&[(3, 0x2000_0000, count as u32)]);
+    let place = 4 + 12 * (count as u64 - 1);
+    for order in ByteOrder::BOTH {
+        let many = |address_of: &dyn Fn(usize) -> usize| {
+            let mut bytes = vec![0; 4];
+            for i in 0..count {
+                let address = 0x2000_0000 + address_of(i) as u32;
+                let data = [(i % 251) as u8];
+                bytes.extend(padded_section(address, &data, &[0xFF; 3], order));
+            }
+            bytes.extend([0; 4]);
+            bytes
+        };
+        let data: Vec<u8> = (0..count).map(|i| (i % 251) as u8).collect();
+        let turned: Vec<u8> = data.iter().rev().copied().collect();
+        let rising = many(&|i| i);
+        let falling = many(&|i| count - 1 - i);
+        for (name, _, load) in LOADS {
+            for (bytes, after) in [(&rising, &data), (&falling, &turned)] {
+                let mut memory = vec![0x11; count];
+                let answer = load(&regions, bytes, order, &mut memory);
+                let expected = accepted(0, 0, count as u64, count as u64);
+                assert_eq!(answer, expected, "{name}");
+                assert!(memory == *after, "{name}");
+            }
+        }
+        // The last section stores the first one's address again.
+        let bytes = many(&|i| if i + 1 < count { i } else { 0 });
+        for (name, _, load) in LOADS {
+            let mut memory = vec![0x11; count];
+            let answer = load(&regions, &bytes, order, &mut memory);
+            assert_eq!(answer, refused(29, place), "{name}");
+            assert!(memory.iter().all(|byte| *byte == 0x11), "{name}");
+        }
     }
 }
 

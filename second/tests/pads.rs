@@ -59,7 +59,7 @@ fn same(
 #[test]
 fn other_pads_change_no_answer_and_no_memory() {
     let mut numbers = Numbers::new(cases::seed(), 50);
-    let (mut pairs, mut stored, mut not_open) = (0, 0, 0);
+    let (mut pairs, mut stored, mut not_open, mut repeated) = (0, 0, 0, 0);
     for _ in 0..CASES {
         let regions = cases::lendable_map(&mut numbers);
         let order = numbers.order();
@@ -67,16 +67,19 @@ fn other_pads_change_no_answer_and_no_memory() {
             continue;
         };
         let (number, _, changed) = same(&mut numbers, &regions, &pair.table, &pair.other, order);
-        // The form is right, so a section is not open or nothing is refused.
-        assert!(number == 0 || number == 9, "number {number}");
+        // The form is right, so a section is not open, an address of kind 3 is
+        // stored twice, or nothing is refused.
+        assert!(matches!(number, 0 | 9 | 29), "number {number}");
         pairs += 1;
         stored += u64::from(changed);
         not_open += u64::from(number == 9);
+        repeated += u64::from(number == 29);
     }
-    // Some pad changed; memory changed; an address was not open.
-    println!("other pads: {pairs} pairs, {stored} stored, {not_open} not open");
+    // Some pad changed; memory changed; an address was not open, or repeated.
+    println!("other pads: {pairs} pairs, {stored} stored, {not_open} and {repeated} refused");
     assert!(pairs >= CASES / 2);
     assert!(stored >= CASES / 10 && not_open >= CASES / 10);
+    assert!(repeated >= CASES / 50);
 }
 
 #[test]

@@ -44,7 +44,7 @@ pub const TEST_TYPES: [(&str, &str); 2] = [
 ];
 
 /// Those that the rest of judging and loading may hold besides.
-pub const CALL_TYPES: [(&str, &str); 9] = [
+pub const CALL_TYPES: [(&str, &str); 11] = [
     // The byte order of a table's header words.
     ("words::ByteOrder", "HighFirst, LowFirst"),
     // Where the addresses of the permitted records so far begin and end.
@@ -71,6 +71,13 @@ pub const CALL_TYPES: [(&str, &str); 9] = [
     (
         "loader::judging::Walk",
         "offset: usize, sections: usize, bytes: usize",
+    ),
+    // The offset of a section that stores an address of kind 3 again, and the
+    // sections before one: how many, and the span of their addresses.
+    ("one_write::Repeat", "Nowhere, At(usize)"),
+    (
+        "one_write::Earlier",
+        "sections: usize, low: u64, high: u64",
     ),
     // The answer of judging and loading.
     (

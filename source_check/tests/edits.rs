@@ -190,7 +190,8 @@ fn another_mir() {
         let copy = copy(&edit, "another_mir");
         reports(&Program::read(&root(), &with_edit(&edit, &copy)))
     };
-    let report = "region_map::records::is_reserved: the call of region_map::records::head_of is not resolved";
+    let report =
+        "region_map::records::kind_at: the call of region_map::records::head_of is not resolved";
     assert!(reports_of("array_passed_on").contains(&report.to_string()));
     let held = "loader::judging::Stretch, which holds from: u64, until: u64, clear: u64";
     let report = format!("loader::judging::lengthen: the result is {held}");

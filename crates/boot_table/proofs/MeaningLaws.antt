@@ -1,14 +1,16 @@
 -- The meaning of sections: which addresses a section covers, and the bytes of sections one after another.
 use Prim.Native.Nat.{ℕ, _+_, _≤_, _<_}
+use native.Mathlib.Nat.{zero-add}
+use native.Mathlib.Omega.{arith}
 use mathlib.Core.Path.{_≡_, refl, sym}
 use mathlib.Core.List.{List, [], _∷_, _++_}
-use mathlib.Core.Bool.{true}
+use mathlib.Core.Bool.{true, false}
 use mathlib.Core.Option.{Option, none, some}
 use borrow.Author.Tests.{leb-true, le-leb, ltb-true, lt-ltb}
 use lib.ListN.{length}
-use Rattle.words.proofs.ChoiceLaws.{and-yes}
+use Rattle.words.proofs.ChoiceLaws.{and-yes, if-both}
 use Rattle.boot_table.specs.Table.{Sect}
-use Rattle.boot_table.specs.Meaning.{covers, orElse, lastByte}
+use Rattle.boot_table.specs.Meaning.{covers, times, orElse, lastByte}
 
 -- an address that a section covers stands within it
 pub covers-true : (s : Sect) (a : ℕ) → covers s a ≡ true → (s .address ≤ a) × (a < s .address + length (s .body))
@@ -21,6 +23,34 @@ covers-true s a e =
 pub covers-in : (s : Sect) (a : ℕ) → s .address ≤ a → a < s .address + length (s .body) → covers s a ≡ true
 unfolding covers
 covers-in s a h k = simp (le-leb _ _ h, lt-ltb _ _ k)
+
+-- ---- how many sections cover an address
+
+-- one section covers it once, or not at all
+pub times-yes : (s : Sect) (ss : List Sect) (a : ℕ) → covers s a ≡ true → times (s ∷ ss) a ≡ 1 + times ss a
+unfolding times
+times-yes s ss a e = rw e
+
+pub times-no : (s : Sect) (ss : List Sect) (a : ℕ) → covers s a ≡ false → times (s ∷ ss) a ≡ times ss a
+unfolding times
+times-no s ss a e = rw e (zero-add (times ss a))
+
+-- the first section, and the others
+pub times-first : (s : Sect) (ss : List Sect) (a : ℕ) → times (s ∷ ss) a ≡ times (s ∷ []) a + times ss a
+unfolding times
+times-first s ss a = omega arith
+
+pub times-one : (s : Sect) (a : ℕ) → times (s ∷ []) a ≤ 1
+unfolding times
+times-one s a = if-both (λ (n : ℕ). n + 0 ≤ 1) (covers s a) 1 0 (omega arith) (omega arith)
+
+-- sections one after another: as often as the ones and the others together
+pub times-append : (xs ys : List Sect) (a : ℕ) → times (xs ++ ys) a ≡ times xs a + times ys a
+unfolding times
+times-append [] ys a = sym (zero-add (times ys a))
+times-append (x ∷ xs) ys a = let ih = times-append xs ys a in omega arith
+
+-- ---- the last byte
 
 -- laws of orElse
 or-none : (x : Option ℕ) → orElse x none ≡ x

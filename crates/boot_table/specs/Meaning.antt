@@ -12,6 +12,11 @@ use Rattle.boot_table.specs.Table.{Sect}
 unfoldable pub covers : Sect → ℕ → Bool
 covers s a = leb (s .address) a && ltb a (s .address + length (s .body))
 
+-- how many of the sections cover the address: that is how often they store it
+unfoldable pub times : List Sect → ℕ → ℕ
+times [] a = 0
+times (s ∷ ss) a = if (covers s a) 1 0 + times ss a
+
 -- the byte that a section carries at an address that it covers
 unfoldable pub byteFor : Sect → ℕ → ℕ
 byteFor s a = getD (s .body) (a - s .address) 0

@@ -33,7 +33,7 @@ pub turn-calls : (o : ByteOrder) (m a b out whole turn : List ℕ) → Bytes a �
     × ((whole′ ≡ loadMemory o m (joinIn o a b out) whole)
     × ((turn′ ≡ loadMemory o m b (loadMemory o m a turn))
     × (Joinable o a b out → Fitting m whole → whole ≡ turn
-    → InTurn o a b out (record { joined = j; whole = w; first = f; second = g }) out′ whole′ turn′))))
+    → InTurn o m a b out (record { joined = j; whole = w; first = f; second = g }) out′ whole′ turn′))))
 unfolding joinIn
 turn-calls o m a b out whole turn p q j out′ w f g whole′ turn₁ turn′ ej eo ew e1 ef et eg eu =
     rw (eu, eg, et, ef, e1, ew, eo, ej)

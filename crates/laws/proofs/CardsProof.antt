@@ -6,14 +6,16 @@ use lib.Count.{ones}
 use lib.ListN.{length}
 use Rattle.words.specs.Word.{wordAt, wordBytes, padCount}
 use Rattle.words.specs.Header.{headerAt, headerBytes}
-use Rattle.region_map.specs.Map.{marked, permitted, reserved, known, zeroed, holds, shares, sharesAny, soundAt, faultFrom, mapFault}
-use Rattle.region_map.specs.Map.{anyHolds, isOpen, closedFrom, sizeBefore, holder, placeOf, faultAnswer, mapAnswer}
+use Rattle.region_map.specs.Map.{marked, permitted, reserved, oneWrite, known, zeroed, holds, shares, sharesAny, soundAt, faultFrom, mapFault}
+use Rattle.region_map.specs.Map.{anyHolds, isOpen, once, closedFrom, sizeBefore, holder, placeOf, faultAnswer, mapAnswer}
 use Rattle.boot_table.specs.Table.{chunk, chunks, tableOf, nextOf, endStep, sectionStep, stepAt, sectionAt}
 use Rattle.boot_table.specs.Table.{before, onStep, readFrom, readOn, reading}
 use Rattle.boot_table.specs.Form.{total, readForm, formOf}
+use Rattle.boot_table.specs.Meaning.{covers, times}
+use Rattle.one_write.specs.Once.{written, repeatsFrom, repeatFrom, firstRepeat}
 use Rattle.loader.specs.declared.Answer.{Answer}
 use Rattle.loader.specs.Store.{storeBytes, storeAll}
-use Rattle.loader.specs.Load.{accepted, mapRule, formFirst, tableAnswer, loadAnswer, loadMemory}
+use Rattle.loader.specs.Load.{accepted, mapRule, onceAnswer, formFirst, tableAnswer, loadAnswer, loadMemory}
 use Rattle.joiner.specs.declared.Joined.{Joined}
 use Rattle.joiner.specs.Join.{joined, joinedLength, joinAnswer, joinOutput}
 use Rattle.boot_config.specs.declared.Configured.{Configured}
@@ -75,10 +77,11 @@ all-hold (c ∷ cs) e = (card-holds c (cc), all-hold cs (cc))
 -- 'unfolding everything' opens all the definitions that a card computes with
 unfoldable everything : Unit {0}
 unfolding given named wordAt wordBytes padCount headerAt headerBytes
-    marked permitted reserved known zeroed holds shares sharesAny soundAt faultFrom mapFault
-    anyHolds isOpen closedFrom sizeBefore holder placeOf faultAnswer mapAnswer
+    marked permitted reserved oneWrite known zeroed holds shares sharesAny soundAt faultFrom mapFault
+    anyHolds isOpen once closedFrom sizeBefore holder placeOf faultAnswer mapAnswer
     chunk chunks tableOf nextOf endStep sectionStep stepAt sectionAt before onStep readFrom readOn reading
-    total readForm formOf storeBytes storeAll accepted mapRule formFirst tableAnswer loadAnswer loadMemory
+    covers times written repeatsFrom repeatFrom firstRepeat
+    total readForm formOf storeBytes storeAll accepted mapRule onceAnswer formFirst tableAnswer loadAnswer loadMemory
     joined joinedLength joinAnswer joinOutput
     ones rising fit indexOf masked changedBits unmaskedAt entryAt onEntry appliedFrom applied configAnswer configValues
     strapOf isReserved decodeAs decodeShort kindOf fieldsOf sameList sameStrap sameOf sameAnswer labelOf labelAnswer

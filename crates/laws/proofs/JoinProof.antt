@@ -71,7 +71,7 @@ module _ (o : ByteOrder) (a b out : List ℕ) (p : Bytes a) (q : Bytes b) (j : J
     whole : IsAccepted (loadAnswer o m (joinIn o a b out) (length mem)) → Accepted o m (joinIn o a b out) (length mem)
     whole = accepted-iff o m (joinIn o a b out) (length mem) .0
 
-    pub in-turn : InTurn o a b out (turnAnswers o m a b out mem mem)
+    pub in-turn : InTurn o m a b out (turnAnswers o m a b out mem mem)
         (joinOutput o a b out) (loadMemory o m (joinIn o a b out) mem) (loadMemory o m b (loadMemory o m a mem))
     in-turn = record {
       joined = is-join;

@@ -75,6 +75,30 @@ labelled number label = record { number = number; place = 0; label = label }
 abbrev pub mapM : List ℕ
 mapM = 0x52 ∷ 0x47 ∷ 0x01 ∷ 0x00 ∷ 0x00 ∷ 0x80 ∷ 0x00 ∷ 0x00 ∷ 0x00 ∷ 0x00 ∷ 0x00 ∷ 0x10 ∷ []
 
+-- M with kind 3; M in two records that touch, of which only the first has kind 3, and only the second; M with kind 3 and a reserved address; M and a record of kind 3 that shares an address with it
+abbrev pub mapOnce : List ℕ
+mapOnce = 0x52 ∷ 0x47 ∷ 0x03 ∷ 0x00 ∷ 0x00 ∷ 0x80 ∷ 0x00 ∷ 0x00 ∷ 0x00 ∷ 0x00 ∷ 0x00 ∷ 0x10 ∷ []
+
+abbrev pub mapOnceFirst : List ℕ
+mapOnceFirst =
+    0x52 ∷ 0x47 ∷ 0x03 ∷ 0x00 ∷ 0x00 ∷ 0x80 ∷ 0x00 ∷ 0x00 ∷ 0x00 ∷ 0x00 ∷ 0x00 ∷ 0x04 ∷
+    0x52 ∷ 0x47 ∷ 0x01 ∷ 0x00 ∷ 0x00 ∷ 0x80 ∷ 0x00 ∷ 0x04 ∷ 0x00 ∷ 0x00 ∷ 0x00 ∷ 0x0C ∷ []
+
+abbrev pub mapOnceSecond : List ℕ
+mapOnceSecond =
+    0x52 ∷ 0x47 ∷ 0x01 ∷ 0x00 ∷ 0x00 ∷ 0x80 ∷ 0x00 ∷ 0x00 ∷ 0x00 ∷ 0x00 ∷ 0x00 ∷ 0x04 ∷
+    0x52 ∷ 0x47 ∷ 0x03 ∷ 0x00 ∷ 0x00 ∷ 0x80 ∷ 0x00 ∷ 0x04 ∷ 0x00 ∷ 0x00 ∷ 0x00 ∷ 0x0C ∷ []
+
+abbrev pub mapOnceReserved : List ℕ
+mapOnceReserved =
+    0x52 ∷ 0x47 ∷ 0x03 ∷ 0x00 ∷ 0x00 ∷ 0x80 ∷ 0x00 ∷ 0x00 ∷ 0x00 ∷ 0x00 ∷ 0x00 ∷ 0x10 ∷
+    0x52 ∷ 0x47 ∷ 0x02 ∷ 0x00 ∷ 0x00 ∷ 0x80 ∷ 0x00 ∷ 0x04 ∷ 0x00 ∷ 0x00 ∷ 0x00 ∷ 0x01 ∷ []
+
+abbrev pub mapOnceShared : List ℕ
+mapOnceShared =
+    0x52 ∷ 0x47 ∷ 0x01 ∷ 0x00 ∷ 0x00 ∷ 0x80 ∷ 0x00 ∷ 0x00 ∷ 0x00 ∷ 0x00 ∷ 0x00 ∷ 0x10 ∷
+    0x52 ∷ 0x47 ∷ 0x03 ∷ 0x00 ∷ 0x00 ∷ 0x80 ∷ 0x00 ∷ 0x0F ∷ 0x00 ∷ 0x00 ∷ 0x00 ∷ 0x01 ∷ []
+
 abbrev pub tableP : List ℕ
 tableP =
     0x00 ∷ 0x80 ∷ 0x00 ∷ 0x00 ∷ 0x00 ∷ 0x00 ∷ 0x00 ∷ 0x03 ∷ 0x00 ∷ 0x80 ∷ 0x00 ∷ 0x02 ∷ 0xA1 ∷ 0xA2 ∷ 0xA3 ∷ 0x00 ∷ 0x00 ∷ 0x00 ∷ 0x00 ∷ 0x00 ∷ []
@@ -118,6 +142,13 @@ abbrev pub joinQP : List ℕ
 joinQP =
     0x00 ∷ 0x80 ∷ 0x00 ∷ 0x00 ∷ 0x00 ∷ 0x00 ∷ 0x00 ∷ 0x01 ∷ 0x00 ∷ 0x80 ∷ 0x00 ∷ 0x04 ∷ 0xB7 ∷ 0x00 ∷ 0x00 ∷ 0x00 ∷
     0x00 ∷ 0x00 ∷ 0x00 ∷ 0x03 ∷ 0x00 ∷ 0x80 ∷ 0x00 ∷ 0x02 ∷ 0xA1 ∷ 0xA2 ∷ 0xA3 ∷ 0x00 ∷ 0x00 ∷ 0x00 ∷ 0x00 ∷ 0x00 ∷ []
+
+-- P joined with Q, and one byte at 0x00800010 behind their sections
+abbrev pub closedPQ : List ℕ
+closedPQ =
+    0x00 ∷ 0x80 ∷ 0x00 ∷ 0x04 ∷ 0x00 ∷ 0x00 ∷ 0x00 ∷ 0x03 ∷ 0x00 ∷ 0x80 ∷ 0x00 ∷ 0x02 ∷ 0xA1 ∷ 0xA2 ∷ 0xA3 ∷ 0x00 ∷
+    0x00 ∷ 0x00 ∷ 0x00 ∷ 0x01 ∷ 0x00 ∷ 0x80 ∷ 0x00 ∷ 0x04 ∷ 0xB7 ∷ 0x00 ∷ 0x00 ∷ 0x00 ∷
+    0x00 ∷ 0x00 ∷ 0x00 ∷ 0x01 ∷ 0x00 ∷ 0x80 ∷ 0x00 ∷ 0x10 ∷ 0xC1 ∷ 0x00 ∷ 0x00 ∷ 0x00 ∷ 0x00 ∷ 0x00 ∷ 0x00 ∷ 0x00 ∷ []
 
 -- P and Q low first: their entry, size and address words with the low byte first
 abbrev pub lowP : List ℕ
@@ -197,7 +228,7 @@ bothMasks =
 
 -- ---- the cards
 
--- the twelve cards of document 01, card 6 as request 2 and card 12 as request 7 of document 02 have them; and for request 8 P and Q low first, and a word of four different bytes in each order
+-- the twelve cards of document 01, card 6 as request 2 and card 12 as request 7 of document 02 have them; for request 8 P and Q low first, and a word of four different bytes in each order; and for request 10 maps with kind 3
 abbrev pub cards : List Card
 cards =
     -- 1: P under M
@@ -286,4 +317,20 @@ cards =
     Load LowFirst mapM fourBytes memory (accept 0x01020304 false 0 0) memory ∷
     Join HighFirst fourBytes fourBytes output (success 8 0) (fourBytes ++ replicate 28 0xEE) ∷
     Join LowFirst fourBytes fourBytes output (success 8 0) (fourBytes ++ replicate 28 0xEE) ∷
+    -- where M takes one write: P, and P joined with Q, in each order; the second section stores 0x00800004 again
+    Load HighFirst mapOnce tableP memory answerP memoryP ∷
+    Load HighFirst mapOnce joinPQ memory (refuse 29 16 0) memory ∷
+    Load LowFirst mapOnce lowP memory answerP memoryP ∷
+    Load LowFirst mapOnce lowPQ memory (refuse 29 16 0) memory ∷
+    -- each load counts anew: Q into the memory that P left
+    Load HighFirst mapOnce tableQ memoryP (accept 0x00800004 true 1 1) memoryPQ ∷
+    Load LowFirst mapOnce lowQ memoryP (accept 0x00800004 true 1 1) memoryPQ ∷
+    -- where only the addresses before 0x00800004 take one write, and where only it and those after it do
+    Load HighFirst mapOnceFirst joinPQ memory (accept 0x00800004 true 2 4) memoryPQ ∷
+    Load HighFirst mapOnceSecond joinPQ memory (refuse 29 16 0) memory ∷
+    -- an address that is not open goes first, in a later section, and in a reserved record
+    Load HighFirst mapOnce closedPQ memory (refuse 9 28 0x00800010) memory ∷
+    Load HighFirst mapOnceReserved joinPQ memory (refuse 9 4 0x00800004) memory ∷
+    -- a record of kind 3 shares no address with an earlier permitted one
+    Load HighFirst mapOnceShared tableP memory (refuse 2 1 0) memory ∷
     []

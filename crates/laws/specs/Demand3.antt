@@ -11,6 +11,7 @@ use Rattle.region_map.specs.Map.{SoundMap, memorySize}
 use Rattle.boot_table.specs.Table.{Sect, tableOf, entryOf, reading}
 use Rattle.boot_table.specs.Form.{tableLimit, WellFormed}
 use Rattle.boot_table.specs.Meaning.{covers, byteFor}
+use Rattle.one_write.specs.Once.{NoneInBoth}
 use Rattle.loader.specs.declared.Answer.{Answer}
 use Rattle.loader.specs.Load.{loadAnswer, loadMemory}
 use Rattle.joiner.specs.declared.Joined.{Joined}
@@ -79,11 +80,12 @@ pub record IsJoin (o : ByteOrder) (a b out : List ℕ) (r : Joined) (out′ : Li
   pub past : drop (r .length) out′ ≡ drop (r .length) out
 
 -- A was joined with B and the join loaded, and A and then B were loaded into another memory that held the same bytes
-pub record InTurn (o : ByteOrder) (a b out : List ℕ) (r : TurnAnswers) (out′ whole′ turn′ : List ℕ) : Type 0 where
+pub record InTurn (o : ByteOrder) (m a b out : List ℕ) (r : TurnAnswers) (out′ whole′ turn′ : List ℕ) : Type 0 where
   -- the join's bytes, length and count are document 01's
   pub joined : IsJoin o a b out (r .joined) out′
-  -- the join is accepted exactly when A and B both are
-  pub accepted : (IsAccepted (r .whole)) ↔ ((IsAccepted (r .first)) × (IsAccepted (r .second)))
+  -- the join is accepted exactly when A and B both are and no address of kind 3 is stored by both
+  pub accepted : (IsAccepted (r .whole))
+      ↔ ((IsAccepted (r .first)) × (IsAccepted (r .second)) × (NoneInBoth m (reading o a .sections) (reading o b .sections)))
   -- once accepted it leaves, at every byte, what loading A and then B into the same memory leaves
   pub memory : IsAccepted (r .whole) → whole′ ≡ turn′
   -- with B's entry, B's yes or no, and the summed counts
@@ -125,7 +127,7 @@ pub record Swapped (x y : Sect) (r : SwapAnswers) (original′ swapped′ : List
 pub record Demand3 : Type 0 where
   -- any byte order, any well-formed tables A and B whose join fits, any output with room, any sound map, and any memory of its size, whatever bytes that holds
   pub two-tables : (o : ByteOrder) (a b out m mem : List ℕ) → Bytes a → Bytes b → Joinable o a b out → Fitting m mem
-      → InTurn o a b out (turnAnswers o m a b out mem mem)
+      → InTurn o m a b out (turnAnswers o m a b out mem mem)
       (joinOutput o a b out) (loadMemory o m (joinIn o a b out) mem) (loadMemory o m b (loadMemory o m a mem))
   -- any byte order, any three well-formed tables whose full join fits, given output room
   pub three-tables : (o : ByteOrder) (a b c ab left bc right : List ℕ) → Bytes a → Bytes b → Bytes c → Joinable3 o a b c ab left bc right

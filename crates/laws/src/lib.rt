@@ -53,7 +53,7 @@ pub fn join_and_load(
     ensures { λ r. ⌜ (Joinable order (now (first .entry)) (now (second .entry)) (now (output .entry))
         → Fitting (now (map .entry)) (now («join_memory» .entry))
         → now («join_memory» .entry) ≡ now («turn_memory» .entry)
-        → InTurn order (now (first .entry)) (now (second .entry)) (now (output .entry)) r
+        → InTurn order (now (map .entry)) (now (first .entry)) (now (second .entry)) (now (output .entry)) r
         (now (output .exit)) (now («join_memory» .exit)) (now («turn_memory» .exit))) ⌝ }
 {
     let joined = join(first, second, order, output);

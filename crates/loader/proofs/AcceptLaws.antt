@@ -11,6 +11,8 @@ use Rattle.boot_table.specs.Form.{total, WellFormed}
 use Rattle.boot_table.specs.Valid.{All, also}
 use Rattle.boot_table.proofs.FormLaws.{total-append}
 use Rattle.boot_table.proofs.RoundTrip.{all-append, all-parts}
+use Rattle.one_write.specs.Once.{NoneInBoth}
+use Rattle.one_write.proofs.OnceLaws.{once-append, once-exchange}
 use Rattle.loader.specs.Store.{storeAll}
 use Rattle.loader.specs.Load.{accepted, loadAnswer, loadMemory, Accepted}
 use Rattle.loader.proofs.StoreLaws.{storeAll-append}
@@ -21,27 +23,37 @@ use Rattle.loader.proofs.LoadLaws.{accepted-iff, accepted-answer, accep
 -- t has the sections of a and then those of b
 module _ (o : ByteOrder) (m t a b : List ℕ) (whole : WellFormed o t) (first : WellFormed o a) (second : WellFormed o b)
     (in-turn : reading o t .sections ≡ reading o a .sections ++ reading o b .sections) where
-  -- it is accepted exactly when a and b both are
-  pub append-accepted : (room : ℕ) → (Accepted o m t room) ↔ ((Accepted o m a room) × (Accepted o m b room))
+  -- it is accepted exactly when a and b both are and no address of kind 3 is stored by both
+  pub append-accepted : (room : ℕ) → (Accepted o m t room)
+      ↔ ((Accepted o m a room) × (Accepted o m b room) × (NoneInBoth m (reading o a .sections) (reading o b .sections)))
   append-accepted room = (
     λ k.
-        let p = all-parts (reading o a .sections) (reading o b .sections) (rw in-turn at (k .opens)) in (
-          record { sound = k .sound; size = k .size; form = first; opens = p .0 },
-          record { sound = k .sound; size = k .size; form = second; opens = p .1 },
+        let p = all-parts (reading o a .sections) (reading o b .sections) (rw in-turn at (k .opens)) in
+        let q = once-append m (reading o a .sections) (reading o b .sections) .0 (rw in-turn at (k .once)) in (
+          record { sound = k .sound; size = k .size; form = first; opens = p .0; once = q .0 },
+          record { sound = k .sound; size = k .size; form = second; opens = p .1; once = q .1 },
+          q .2,
         ),
-    λ k. record { sound = k .0 .sound; size = k .0 .size; form = whole; opens = rw in-turn (all-append (k .0 .opens) (k .1 .opens)) },
+    λ k. record {
+      sound = k .0 .sound;
+      size = k .0 .size;
+      form = whole;
+      opens = rw in-turn (all-append (k .0 .opens) (k .1 .opens));
+      once = rw in-turn (once-append m (reading o a .sections) (reading o b .sections) .1 (k .0 .once, k .1 .once, k .2));
+    },
   )
 
-  -- loading it accepts exactly when loading a and then b does
+  -- loading it accepts exactly when loading a and then b does, and no address of kind 3 is stored by both
   pub append-loads : (mem : List ℕ) → (loadAnswer o m t (length mem) .number ≡ 0)
-      ↔ ((loadAnswer o m a (length mem) .number ≡ 0) × (loadAnswer o m b (length (loadMemory o m a mem)) .number ≡ 0))
+      ↔ ((loadAnswer o m a (length mem) .number ≡ 0) × (loadAnswer o m b (length (loadMemory o m a mem)) .number ≡ 0)
+      × (NoneInBoth m (reading o a .sections) (reading o b .sections)))
   append-loads mem = rw length-load (
     λ z.
         let k = append-accepted (length mem) .0 (accepted-iff o m t (length mem) .0 z) in
-        (accepted-iff o m a (length mem) .1 (k .0), accepted-iff o m b (length mem) .1 (k .1)),
+        (accepted-iff o m a (length mem) .1 (k .0), accepted-iff o m b (length mem) .1 (k .1), k .2),
     λ z.
         accepted-iff o m t (length mem) .1
-        (append-accepted (length mem) .1 (accepted-iff o m a (length mem) .0 (z .0), accepted-iff o m b (length mem) .0 (z .1))),
+        (append-accepted (length mem) .1 (accepted-iff o m a (length mem) .0 (z .0), accepted-iff o m b (length mem) .0 (z .1), z .2)),
   )
 
   module _ (mem : List ℕ) (k : Accepted o m t (length mem)) where
@@ -96,7 +108,13 @@ module _ (o : ByteOrder) (m t u : List ℕ) (xs ys : List Sect) (x y : Sect) (fo
   pub exchange-accepted : {room : ℕ} → Accepted o m t room → Accepted o m u room
   exchange-accepted k =
       let p = all-parts xs (x ∷ y ∷ ys) (rw is at (k .opens)) in
-      record { sound = k .sound; size = k .size; form = form; opens = rw exchanged (all-append (p .0) (exchange-all (p .1))) }
+      record {
+        sound = k .sound;
+        size = k .size;
+        form = form;
+        opens = rw exchanged (all-append (p .0) (exchange-all (p .1)));
+        once = rw exchanged (once-exchange m xs ys x y (rw is at (k .once)));
+      }
 
   same-count : length (xs ++ (y ∷ x ∷ ys)) ≡ length (xs ++ (x ∷ y ∷ ys))
   same-count = simp length-append

@@ -1,10 +1,11 @@
 -- What judging and loading answer, by the tests that lead to each answer.
 use mathlib.Core.Path.{_≡_, refl, sym, _∙_, ap}
 use mathlib.Core.Logic.{by-cases}
-use mathlib.Core.List.{List}
+use mathlib.Core.List.{List, []}
 use mathlib.Core.Bool.{Bool}
 use Prim.Native.Nat.{ℕ}
 use native.Mathlib.Decide.{ℕ-discrete}
+use native.Mathlib.Omega.{arith}
 use borrow.Author.Tests.{eq-eqb, ne-eqb}
 use lib.ListN.{length}
 use Rattle.words.specs.declared.ByteOrder.{ByteOrder}
@@ -17,10 +18,25 @@ use Rattle.boot_table.specs.declared.Form.{Form}
 use Rattle.boot_table.specs.Form.{total, formed, formOf, WellFormed}
 use Rattle.boot_table.proofs.FormLaws.{form-well, well-form}
 use Rattle.boot_table.specs.Valid.{All}
+use Rattle.one_write.specs.declared.Repeat.{Repeat}
+use Rattle.one_write.specs.declared.Repeat.the-variants.{Nowhere, At}
+use Rattle.one_write.specs.Once.{repeatFrom, firstRepeat, StoresOnce}
+use Rattle.one_write.proofs.OnceLaws.{nowhere-iff}
 use Rattle.loader.specs.declared.Answer.{Answer}
 use Rattle.loader.specs.Store.{storeAll}
-use Rattle.loader.specs.Load.{refused, accepted, mapRule, formFirst, tableAnswer, judgeAnswer, loadAnswer, loadMemory, Opens}
-use Rattle.loader.proofs.RuleLaws.{opens-rule, rule-opens}
+use Rattle.loader.specs.Load.{refused, accepted, onRepeat, onceAnswer, mapRule, formFirst, openAnswer, tableAnswer, judgeAnswer, loadAnswer, loadMemory, Opens}
+use Rattle.loader.proofs.RuleLaws.{opens-rule, rule-opens, rule-refused}
+
+-- ---- the form goes first, by its number
+
+module _ (o : ByteOrder) (t : List ℕ) (later : Answer) (f : Form) (e : f ≡ formOf o t) where
+  pub first-refused : (f .number ≡ 0 → ⊥) → refused (f .number) (f .place) ≡ formFirst o t later
+  unfolding formFirst
+  first-refused n = rw (← e) (simp (ne-eqb _ _ n))
+
+  pub first-later : f .number ≡ 0 → later ≡ formFirst o t later
+  unfolding formFirst
+  first-later z = rw (← e) (simp (eq-eqb _ _ z))
 
 -- ---- each answer, by the tests that lead to it: j is the map's, f the table's form
 
@@ -34,17 +50,26 @@ module _ (o : ByteOrder) (m t : List ℕ) where
   map-judged j e z = rw (← e) (simp (eq-eqb _ _ z))
 
   pub form-refused : (f : Form) → f ≡ formOf o t → (f .number ≡ 0 → ⊥) → refused (f .number) (f .place) ≡ tableAnswer o m t
-  unfolding tableAnswer formFirst
-  form-refused f e n = rw (← e) (simp (ne-eqb _ _ n))
+  unfolding tableAnswer
+  form-refused f e n = first-refused o t _ f e n
 
-  pub form-judged : (f : Form) → f ≡ formOf o t → f .number ≡ 0 → mapRule m (accepted o m t) 4 (reading o t .sections) ≡ tableAnswer o m t
-  unfolding tableAnswer formFirst
-  form-judged f e z = rw (← e) (simp (eq-eqb _ _ z))
+  pub form-judged : (f : Form) → f ≡ formOf o t → f .number ≡ 0 → mapRule m (onceAnswer o m t) 4 (reading o t .sections) ≡ tableAnswer o m t
+  unfolding tableAnswer
+  form-judged f e z = first-later o t (mapRule m (onceAnswer o m t) 4 (reading o t .sections)) f e z
+
+  -- the same without the rule of one write
+  pub open-refused : (f : Form) → f ≡ formOf o t → (f .number ≡ 0 → ⊥) → refused (f .number) (f .place) ≡ openAnswer o m t
+  unfolding openAnswer
+  open-refused f e n = first-refused o t _ f e n
+
+  pub open-judged : (f : Form) → f ≡ formOf o t → f .number ≡ 0 → mapRule m (accepted o m t) 4 (reading o t .sections) ≡ openAnswer o m t
+  unfolding openAnswer
+  open-judged f e z = first-later o t (mapRule m (accepted o m t) 4 (reading o t .sections)) f e z
 
   -- the map rule's answer, where the form goes first
-  pub form-then : (later : Answer) → later ≡ mapRule m (accepted o m t) 4 (reading o t .sections) → formFirst o t later ≡ tableAnswer o m t
-  unfolding tableAnswer
-  form-then later e = rw e
+  pub open-then : (later : Answer) → later ≡ mapRule m (accepted o m t) 4 (reading o t .sections) → formFirst o t later ≡ openAnswer o m t
+  unfolding openAnswer
+  open-then later e = rw e
 
   module _ (room : ℕ) (j : MapAnswer) (e : j ≡ mapAnswer m) where
     pub load-refused : (j .number ≡ 0 → ⊥) → refused (j .number) (j .place) ≡ loadAnswer o m t room
@@ -58,17 +83,6 @@ module _ (o : ByteOrder) (m t : List ℕ) where
     pub load-judged : j .number ≡ 0 → room ≡ memorySize m → tableAnswer o m t ≡ loadAnswer o m t room
     unfolding loadAnswer
     load-judged z s = rw (← e) (simp (eq-eqb _ _ z, eq-eqb _ _ s))
-
--- ---- the form goes first, by its number
-
-module _ (o : ByteOrder) (t : List ℕ) (later : Answer) (f : Form) (e : f ≡ formOf o t) where
-  pub first-refused : (f .number ≡ 0 → ⊥) → refused (f .number) (f .place) ≡ formFirst o t later
-  unfolding formFirst
-  first-refused n = rw (← e) (simp (ne-eqb _ _ n))
-
-  pub first-later : f .number ≡ 0 → later ≡ formFirst o t later
-  unfolding formFirst
-  first-later z = rw (← e) (simp (eq-eqb _ _ z))
 
 -- ---- memory, by the answer r
 
@@ -102,12 +116,74 @@ fine-is o m t sections bytes entry opens e p q =
 
 -- ---- acceptance
 
--- under a sound map a table is accepted exactly where it is well-formed and keeps the map rule
-pub table-only : (o : ByteOrder) (m t : List ℕ) → tableAnswer o m t .number ≡ 0 → (WellFormed o t) × (All (Opens m) (reading o t .sections))
+-- a table that keeps the map rule is accepted exactly where it stores no address of kind 3 twice
+once-only : (o : ByteOrder) (m t : List ℕ) → onceAnswer o m t .number ≡ 0 → StoresOnce m (reading o t .sections)
+unfolding onceAnswer firstRepeat
+once-only o m t z = nowhere-iff m 4 (reading o t .sections) .0 (go (repeatFrom m 4 [] (reading o t .sections)) z)
+  where
+    go : (r : Repeat) → onRepeat (accepted o m t) r .number ≡ 0 → r ≡ Nowhere
+    go Nowhere e = refl
+    go (At at) e = absurd (omega arith)
+
+once-if : (o : ByteOrder) (m t : List ℕ) → StoresOnce m (reading o t .sections) → onceAnswer o m t ≡ accepted o m t
+unfolding onceAnswer firstRepeat
+once-if o m t k = ap (onRepeat (accepted o m t)) (nowhere-iff m 4 (reading o t .sections) .1 k)
+
+-- under a sound map a table is accepted exactly where it is well-formed, keeps the map rule, and stores no address of kind 3 twice
+pub table-only : (o : ByteOrder) (m t : List ℕ) → tableAnswer o m t .number ≡ 0
+    → (WellFormed o t) × (All (Opens m) (reading o t .sections)) × (StoresOnce m (reading o t .sections))
 table-only o m t z =
     by-cases (ℕ-discrete (formOf o t .number) 0)
-    (λ f. (form-well o t f, rule-opens m (accepted o m t) 4 (reading o t .sections) (ap (λ (r : Answer). r .number) (form-judged o m t (formOf o t) refl f) ∙ z)))
+    (λ f.
+    let rule = ap (λ (r : Answer). r .number) (form-judged o m t (formOf o t) refl f) ∙ z in
+    let opens = rule-opens m (onceAnswer o m t) 4 (reading o t .sections) rule in
+    (form-well o t f, opens, once-only o m t (ap (λ (r : Answer). r .number) (sym (opens-rule m (onceAnswer o m t) 4 opens)) ∙ rule)))
     (λ n. absurd (n (ap (λ (r : Answer). r .number) (form-refused o m t (formOf o t) refl n) ∙ z)))
 
-pub table-if : (o : ByteOrder) (m t : List ℕ) → WellFormed o t → All (Opens m) (reading o t .sections) → tableAnswer o m t ≡ accepted o m t
-table-if o m t w opens = sym (form-judged o m t (formOf o t) refl (ap (λ (f : Form). f .number) (well-form o t w))) ∙ opens-rule m (accepted o m t) 4 opens
+pub table-if : (o : ByteOrder) (m t : List ℕ) → WellFormed o t → All (Opens m) (reading o t .sections) → StoresOnce m (reading o t .sections)
+    → tableAnswer o m t ≡ accepted o m t
+table-if o m t w opens once =
+    sym (form-judged o m t (formOf o t) refl (ap (λ (f : Form). f .number) (well-form o t w)))
+    ∙ opens-rule m (onceAnswer o m t) 4 opens
+    ∙ once-if o m t once
+
+-- ---- one write, after the form and the map rule: r is the answer for these
+
+module _ (o : ByteOrder) (m t : List ℕ) (r : Answer) (e : r ≡ openAnswer o m t) where
+  -- a refusal stays
+  pub once-refused : (r .number ≡ 0 → ⊥) → r ≡ tableAnswer o m t
+  unfolding accepted
+  once-refused n =
+      e
+      ∙ by-cases (ℕ-discrete (formOf o t .number) 0)
+      (λ f.
+      let rule = open-judged o m t (formOf o t) refl f in
+      sym rule
+      ∙ rule-refused m 4 (reading o t .sections) (accepted o m t) (onceAnswer o m t) refl
+      (λ z. n (ap (λ (a : Answer). a .number) (e ∙ sym rule) ∙ z))
+      ∙ form-judged o m t (formOf o t) refl f)
+      (λ f. sym (open-refused o m t (formOf o t) refl f) ∙ form-refused o m t (formOf o t) refl f)
+
+  -- a table that is not refused so far is well-formed and keeps the map rule
+  module _ (z : r .number ≡ 0) where
+    pub once-formed : WellFormed o t
+    once-formed =
+        by-cases (ℕ-discrete (formOf o t .number) 0) (form-well o t)
+        (λ n. absurd (n (ap (λ (a : Answer). a .number) (open-refused o m t (formOf o t) refl n ∙ sym e) ∙ z)))
+
+    form-zero : formOf o t .number ≡ 0
+    form-zero = ap (λ (f : Form). f .number) (well-form o t once-formed)
+
+    opens : All (Opens m) (reading o t .sections)
+    opens =
+        rule-opens m (accepted o m t) 4 (reading o t .sections)
+        (ap (λ (a : Answer). a .number) (open-judged o m t (formOf o t) refl form-zero ∙ sym e) ∙ z)
+
+    -- and its sections decide
+    pub once-judged : onRepeat r (firstRepeat o m t) ≡ tableAnswer o m t
+    unfolding onceAnswer
+    once-judged =
+        ap (λ (a : Answer). onRepeat a (firstRepeat o m t))
+        (e ∙ sym (open-judged o m t (formOf o t) refl form-zero) ∙ opens-rule m (accepted o m t) 4 opens)
+        ∙ sym (opens-rule m (onceAnswer o m t) 4 opens)
+        ∙ form-judged o m t (formOf o t) refl form-zero

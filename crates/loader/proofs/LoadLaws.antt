@@ -4,23 +4,29 @@ use mathlib.Core.Logic.{_≢_, _↔_, by-cases}
 use mathlib.Core.List.{List, [], _∷_}
 use mathlib.Core.Bool.{true, false, not}
 use mathlib.Core.Option.{Option, none, some, Option·getD}
-use Prim.Native.Nat.{ℕ}
+use Prim.Native.Nat.{ℕ, _<_}
 use native.Mathlib.Decide.{ℕ-discrete}
 use native.Mathlib.Omega.{arith}
 use lib.ListN.{length, getD}
 use lib.Dec.{eqb}
 use Rattle.words.specs.declared.ByteOrder.{ByteOrder}
-use Rattle.words.specs.Refusal.{MEMORY-LENGTH, NOT-OPEN}
+use Rattle.words.specs.Choice.{if}
+use Rattle.words.specs.Refusal.{MEMORY-LENGTH, NOT-OPEN, STORED-TWICE}
 use Rattle.words.proofs.ChoiceLaws.{if-both}
-use Rattle.region_map.specs.Map.{mapAnswer, memorySize, isOpen, closedFrom, placeOf}
+use Rattle.region_map.specs.Map.{count, oneWrite, mapAnswer, memorySize, isOpen, closedFrom, placeOf}
 use Rattle.region_map.specs.declared.MapAnswer.{MapAnswer}
 use Rattle.region_map.proofs.FaultLaws.{answer-sound, sound-answer}
+use Rattle.region_map.proofs.OnceLaws.{plain-once}
 use Rattle.boot_table.specs.Table.{Sect, nextOf, reading}
 use Rattle.boot_table.specs.Form.{formOf}
 use Rattle.boot_table.specs.Meaning.{lastByte}
+use Rattle.one_write.specs.declared.Repeat.{Repeat}
+use Rattle.one_write.specs.declared.Repeat.the-variants.{Nowhere, At}
+use Rattle.one_write.specs.Once.{firstRepeat}
+use Rattle.one_write.proofs.OnceLaws.{plain-nowhere}
 use Rattle.loader.specs.declared.Answer.{Answer}
 use Rattle.loader.specs.Store.{storeAll}
-use Rattle.loader.specs.Load.{refused, onClosed, accepted, mapRule, formFirst, tableAnswer, judgeAnswer, loadAnswer, loadMemory, Accepted}
+use Rattle.loader.specs.Load.{refused, onClosed, accepted, onRepeat, onceAnswer, mapRule, formFirst, openAnswer, tableAnswer, mapFirst, judgeAnswer, loadAnswer, loadMemory, Accepted}
 use Rattle.loader.proofs.StoreLaws.{length-storeAll, storeAll-at, storeAll-miss}
 use Rattle.loader.proofs.AnswerLaws.{map-refused, map-judged, load-refused, load-sized, load-judged, memory-kept, memory-stored, table-only, table-if}
 
@@ -33,7 +39,7 @@ module _ (o : ByteOrder) (m t : List ℕ) (room : ℕ) where
       (λ s. by-cases (ℕ-discrete room (memorySize m))
       (λ e.
       let q = table-only o m t (ap (λ (r : Answer). r .number) (load-judged o m t room (mapAnswer m) refl s e) ∙ z) in
-      record { sound = answer-sound m s; size = e; form = q .0; opens = q .1 })
+      record { sound = answer-sound m s; size = e; form = q .0; opens = q .1; once = q .2 })
       (λ n. absurd (three (ap (λ (r : Answer). r .number) (load-sized o m t room (mapAnswer m) refl s n) ∙ z))))
       (λ n. absurd (n (ap (λ (r : Answer). r .number) (load-refused o m t room (mapAnswer m) refl n) ∙ z)))
     where
@@ -43,12 +49,38 @@ module _ (o : ByteOrder) (m t : List ℕ) (room : ℕ) where
   -- an accepted table's answer
   pub accepted-answer : Accepted o m t room → loadAnswer o m t room ≡ accepted o m t
   accepted-answer a =
-      sym (load-judged o m t room (mapAnswer m) refl (ap (λ (r : MapAnswer). r .number) (sound-answer m (a .sound))) (a .size)) ∙ table-if o m t (a .form) (a .opens)
+      sym (load-judged o m t room (mapAnswer m) refl (ap (λ (r : MapAnswer). r .number) (sound-answer m (a .sound))) (a .size)) ∙ table-if o m t (a .form) (a .opens) (a .once)
 
-  -- a table is accepted exactly when the map is sound, memory has the map's size, and the table is well-formed and keeps the map rule
+  -- a table is accepted exactly when the map is sound, memory has the map's size, and the table is well-formed, keeps the map rule, and stores no address of kind 3 twice
   pub accepted-iff : (loadAnswer o m t room .number ≡ 0) ↔ (Accepted o m t room)
   unfolding accepted
   accepted-iff = (accept-only, λ a. ap (λ (r : Answer). r .number) (accepted-answer a))
+
+-- ---- maps without a record of kind 3
+
+-- the answers are those by the map, the memory, the form and the map rule: the rule of one write adds none. The `plain-..` laws of
+-- region_map are the other half: what such a map opens and where its bytes stand goes by kind 1 alone. So nothing changes from before
+module _ (o : ByteOrder) (m t : List ℕ) (plain : (i : ℕ) → i < count m → oneWrite m i ≡ false) where
+  plain-repeat : firstRepeat o m t ≡ Nowhere
+  unfolding firstRepeat
+  plain-repeat = plain-nowhere m (plain-once m plain) 4 (reading o t .sections)
+
+  plain-answer : tableAnswer o m t ≡ openAnswer o m t
+  unfolding tableAnswer onceAnswer openAnswer
+  plain-answer = rw plain-repeat refl
+
+  pub plain-judged : judgeAnswer o m t ≡ mapFirst m (openAnswer o m t)
+  unfolding judgeAnswer
+  plain-judged = rw plain-answer refl
+
+  pub plain-loaded : (room : ℕ) → loadAnswer o m t room ≡ mapFirst m (if (not (eqb room (memorySize m))) (refused MEMORY-LENGTH 0) (openAnswer o m t))
+  unfolding loadAnswer
+  plain-loaded room = rw plain-answer refl
+
+  pub plain-memory : (mem : List ℕ) → loadMemory o m t mem
+      ≡ if (eqb (mapFirst m (if (not (eqb (length mem) (memorySize m))) (refused MEMORY-LENGTH 0) (openAnswer o m t)) .number) 0) (storeAll m mem (reading o t .sections)) mem
+  unfolding loadMemory
+  plain-memory mem = rw (plain-loaded (length mem)) refl
 
 -- ---- refusals
 
@@ -77,11 +109,15 @@ fair-rule m fine at [] f = f
 fair-rule m fine at (s ∷ ss) f =
     fair-closed at (mapRule m fine (nextOf at (length (s .body))) ss) (closedFrom m (length (s .body)) (s .address)) (fair-rule m fine (nextOf at (length (s .body))) ss f)
 
+fair-repeat : (later : Answer) (r : Repeat) → Fair later → Fair (onRepeat later r)
+fair-repeat later Nowhere f = f
+fair-repeat later (At at) f = fair-refused STORED-TWICE at
+
 fair-table : (o : ByteOrder) (m t : List ℕ) → Fair (tableAnswer o m t)
-unfolding tableAnswer formFirst accepted
+unfolding tableAnswer formFirst onceAnswer accepted
 fair-table o m t =
     if-both Fair (not (eqb (formOf o t .number) 0)) _ _ (fair-refused (formOf o t .number) (formOf o t .place))
-    (fair-rule m (accepted o m t) 4 (reading o t .sections) (λ n. absurd (n refl)))
+    (fair-rule m (onceAnswer o m t) 4 (reading o t .sections) (fair-repeat (accepted o m t) (firstRepeat o m t) (λ n. absurd (n refl))))
 
 -- a refusal has its number and place, and all else zero
 pub refusal-blank : (o : ByteOrder) (m t : List ℕ) (room : ℕ) → (loadAnswer o m t room .number ≡ 0 → ⊥) → Blank (loadAnswer o m t room)

@@ -9,9 +9,11 @@ use Rattle.boot_table.specs.Table.{Sect, entryOf, nextOf, reading}
 use Rattle.boot_table.specs.Form.{total, formOf}
 use Rattle.boot_table.specs.Pads.{DifferInPads, bare}
 use Rattle.boot_table.proofs.PadLaws.{by-bare, total-bare, pads-entry, pads-sections, pads-form}
+use Rattle.one_write.specs.Once.{repeatFrom, firstRepeat}
+use Rattle.one_write.proofs.OnceLaws.{repeat-bare}
 use Rattle.loader.specs.declared.Answer.{Answer}
 use Rattle.loader.specs.Store.{storeBytes, storeAll}
-use Rattle.loader.specs.Load.{onClosed, accepted, mapRule, formFirst, tableAnswer, judgeAnswer, loadAnswer, loadMemory}
+use Rattle.loader.specs.Load.{onClosed, accepted, onceAnswer, mapRule, formFirst, tableAnswer, judgeAnswer, loadAnswer, loadMemory}
 
 -- ---- the rule and storing do not look at pads
 
@@ -37,10 +39,15 @@ module _ (o p : ByteOrder) (m t u : List ℕ) (form : formOf o t ≡ formOf p u)
       by-bare length (λ ss. length-map ss bare) (reading o t .sections) (reading p u .sections) sections in
       rw (entry, count, by-bare total total-bare (reading o t .sections) (reading p u .sections) sections) refl
 
+  alike-once : onceAnswer o m t ≡ onceAnswer p m u
+  unfolding onceAnswer firstRepeat
+  alike-once =
+      rw (alike-accepted, by-bare (repeatFrom m 4 []) (repeat-bare m 4 []) (reading o t .sections) (reading p u .sections) sections) refl
+
   alike-answer : tableAnswer o m t ≡ tableAnswer p m u
   unfolding tableAnswer formFirst
   alike-answer =
-      rw (form, alike-accepted, by-bare (mapRule m (accepted p m u) 4) (rule-bare m (accepted p m u) 4) (reading o t .sections) (reading p u .sections) sections) refl
+      rw (form, alike-once, by-bare (mapRule m (onceAnswer p m u) 4) (rule-bare m (onceAnswer p m u) 4) (reading o t .sections) (reading p u .sections) sections) refl
 
   -- judging answers the same
   pub alike-judged : judgeAnswer o m t ≡ judgeAnswer p m u

@@ -59,6 +59,22 @@ module _ (m : List ℕ) (fine : Answer) where
       go none e ih = also (nowhere-opens m s e) (ih (ap (λ (r : Answer). r .number) (sym (rule-open at s ss e)) ∙ z))
       go (some a) e ih = absurd (omega (arith, ap (λ (r : Answer). r .number) (sym (rule-closed at a s ss e)) ∙ z))
 
+-- what the map rule refuses does not depend on the answer that it would leave
+pub rule-refused : (m : List ℕ) (at : ℕ) (ss : List Sect) (fine other : Answer) → fine .number ≡ 0 → (mapRule m fine at ss .number ≡ 0 → ⊥)
+    → mapRule m fine at ss ≡ mapRule m other at ss
+unfolding mapRule
+rule-refused m at [] fine other z n = absurd (n z)
+rule-refused m at (s ∷ ss) fine other z n =
+    go (closedFrom m (length (s .body)) (s .address)) n (rule-refused m (nextOf at (length (s .body))) ss fine other z)
+  where
+    later : Answer → Answer
+    later f = mapRule m f (nextOf at (length (s .body))) ss
+
+    go : (c : Option ℕ) → (onClosed at (later fine) c .number ≡ 0 → ⊥) → ((later fine .number ≡ 0 → ⊥) → later fine ≡ later other)
+        → onClosed at (later fine) c ≡ onClosed at (later other) c
+    go none k ih = ih k
+    go (some a) k ih = refl
+
 -- ---- the map rule on a walk
 
 -- the walk begins behind the entry word

@@ -8,12 +8,15 @@ use lib.ListN.{length}
 use lib.Dec.{eqb}
 use Rattle.words.specs.declared.ByteOrder.{ByteOrder}
 use Rattle.words.specs.Choice.{if}
-use Rattle.words.specs.Refusal.{MEMORY-LENGTH, NOT-OPEN}
+use Rattle.words.specs.Refusal.{MEMORY-LENGTH, NOT-OPEN, STORED-TWICE}
 use Rattle.region_map.specs.Map.{SoundMap, mapAnswer, memorySize, isOpen, closedFrom}
 use Rattle.boot_table.specs.Table.{entryOf, Sect, nextOf, reading}
 use Rattle.boot_table.specs.Form.{formOf, total, WellFormed}
 use Rattle.boot_table.specs.Meaning.{covers}
 use Rattle.boot_table.specs.Valid.{All}
+use Rattle.one_write.specs.declared.Repeat.{Repeat}
+use Rattle.one_write.specs.declared.Repeat.the-variants.{Nowhere, At}
+use Rattle.one_write.specs.Once.{firstRepeat, StoresOnce}
 use Rattle.loader.specs.declared.Answer.{Answer}
 use Rattle.loader.specs.Store.{storeAll}
 
@@ -50,13 +53,26 @@ mapRule m fine at [] = fine
 mapRule m fine at (s ∷ ss) =
     onClosed at (mapRule m fine (nextOf at (length (s .body))) ss) (closedFrom m (length (s .body)) (s .address))
 
+-- the first section that stores an address of kind 3 again is refused; else the answer is a later one
+abbrev pub onRepeat : Answer → Repeat → Answer
+onRepeat later Nowhere = later
+onRepeat later (At at) = refused STORED-TWICE at
+
+-- the answer for a table that keeps the map rule: no address of kind 3 is stored twice, or it is refused
+unfoldable pub onceAnswer : ByteOrder → List ℕ → List ℕ → Answer
+onceAnswer o m t = onRepeat (accepted o m t) (firstRepeat o m t)
+
 -- a fault of the table's form goes before a later answer
 unfoldable pub formFirst : ByteOrder → List ℕ → Answer → Answer
 formFirst o t later = if (not (eqb (formOf o t .number) 0)) (refused (formOf o t .number) (formOf o t .place)) later
 
--- the answer for a table under a sound map: its form, and then the map rule
+-- the answer for a table by its form and the map rule alone
+unfoldable pub openAnswer : ByteOrder → List ℕ → List ℕ → Answer
+openAnswer o m t = formFirst o t (mapRule m (accepted o m t) 4 (reading o t .sections))
+
+-- the answer for a table under a sound map: its form, then the map rule, and then that no address of kind 3 is stored twice
 unfoldable pub tableAnswer : ByteOrder → List ℕ → List ℕ → Answer
-tableAnswer o m t = formFirst o t (mapRule m (accepted o m t) 4 (reading o t .sections))
+tableAnswer o m t = formFirst o t (mapRule m (onceAnswer o m t) 4 (reading o t .sections))
 
 -- a fault of the map goes before a later answer
 abbrev pub mapFirst : List ℕ → Answer → Answer
@@ -78,9 +94,10 @@ loadMemory o m t mem = if (eqb (loadAnswer o m t (length mem) .number) 0) (store
 abbrev pub Opens : List ℕ → Sect → Type 0
 Opens m s = (a : ℕ) → covers s a ≡ true → isOpen m a ≡ true
 
--- when a table is accepted: a sound map, memory of its size, the form, and the map rule
+-- when a table is accepted: a sound map, memory of its size, the form, the map rule, and no address of kind 3 stored twice
 pub record Accepted (o : ByteOrder) (m t : List ℕ) (room : ℕ) : Type 0 where
   pub sound : SoundMap m
   pub size : room ≡ memorySize m
   pub form : WellFormed o t
   pub opens : All (Opens m) (reading o t .sections)
+  pub once : StoresOnce m (reading o t .sections)

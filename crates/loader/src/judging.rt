@@ -1,8 +1,8 @@
-// Judging a table under a map: its form and the map rule in one walk, which remembers how far addresses are open.
+// Judging a table's form and the map rule in one walk, which remembers how far addresses are open.
 ghost use mathlib.Core.Path.{_≡_};
 ghost use Prim.Native.Nat.{_≤_, _<_, _^_};
 ghost use Rattle.boot_table.specs.Form.{formed, formOf};
-ghost use Rattle.loader.specs.Load.{notOpen, accepted, formFirst, tableAnswer};
+ghost use Rattle.loader.specs.Load.{notOpen, accepted, formFirst, openAnswer};
 ghost use Rattle.loader.specs.Judging.{Clear, ClearPast, Open, Lengthened, OpenTo, Counted, WalkedOn};
 use crate::Answer;
 use crate::refused;
@@ -58,9 +58,10 @@ fn lengthen(map: &[u8], stretch: Stretch, end: u64) -> Stretch
 }
 
 // A stretch that holds the addresses from one on, to end or up to the lowest that is not open: the known stretch,
-// lengthened, where the address is in it or right after it, or else a new one.
-fn stretch_to(map: &[u8], known: Stretch, address: u64, end: u64) -> Stretch
-    requires { ⌜ (end ≤ 2 ^ 32) × Open (now map) known ⌝ }
+// lengthened, where the address is in it or right after it, or else a new one. No address below reserved is in a reserved
+// record, so that a new stretch need not look for one where there is none.
+fn stretch_to(map: &[u8], known: Stretch, reserved: u64, address: u64, end: u64) -> Stretch
+    requires { ⌜ (end ≤ 2 ^ 32) × Open (now map) known × Clear (now map) 0 reserved ⌝ }
     ensures { λ r. ⌜ OpenTo (now (map .entry)) address end r ⌝ }
 {
     if known.from <= address {
@@ -71,7 +72,7 @@ fn stretch_to(map: &[u8], known: Stretch, address: u64, end: u64) -> Stretch
     let new = Stretch {
         from: address,
         until: address,
-        clear: address,
+        clear: reserved,
     };
     lengthen(map, new, end)
 }
@@ -159,11 +160,13 @@ fn walk_on(table: &[u8], order: ByteOrder, walk: Walk, stretch: Stretch) -> Walk
     }
 }
 
-// Judges a table under a map, from stretch to stretch. Where an address is not open, a fault of the form that stands
-// after it goes first. Each turn passes the section that the walk stopped at, now that the stretch holds it.
-pub fn judge_table(map: &[u8], table: &[u8], order: ByteOrder) -> Answer
-    ensures { λ r. ⌜ r ≡ tableAnswer order (now (map .entry)) (now (table .entry)) ⌝ }
+// Judges a table by its form and by the map rule, from stretch to stretch. Where an address is not open, a fault of the
+// form that stands after it goes first. Each turn passes the section that the walk stopped at, now that the stretch holds
+// it.
+pub fn judge_open(map: &[u8], table: &[u8], order: ByteOrder) -> Answer
+    ensures { λ r. ⌜ r ≡ openAnswer order (now (map .entry)) (now (table .entry)) ⌝ }
 {
+    let reserved = reserved_from(map, 0);
     if TABLE_LIMIT < table.len() {
         return refused(TABLE_LONG, 0);
     }
@@ -196,7 +199,7 @@ pub fn judge_table(map: &[u8], table: &[u8], order: ByteOrder) -> Answer
             return refused(number, place);
         };
         let end = address as u64 + size as u64;
-        known = stretch_to(map, known, address as u64, end);
+        known = stretch_to(map, known, reserved, address as u64, end);
         if known.until < end {
             return form_first(table, order, not_open(walk.offset, known.until as u32));
         }

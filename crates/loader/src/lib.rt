@@ -1,12 +1,16 @@
 // Judging a boot table under a region map, and loading it into memory.
 ghost use mathlib.Core.Path.{_≡_};
 ghost use lib.ListN.{length};
+ghost use Rattle.words.specs.Refusal.{STORED-TWICE};
 ghost use Rattle.loader.specs.Load.{refused, judgeAnswer, loadAnswer, loadMemory};
-use judging::judge_table;
+use judging::judge_open;
+use one_write::Repeat;
+use one_write::first_repeat;
 use region_map::judge_map;
 use storing::store_sections;
 use words::ByteOrder;
 use words::refusal::MEMORY_LENGTH;
+use words::refusal::STORED_TWICE;
 
 mod judging;
 mod storing;
@@ -37,6 +41,12 @@ fn refused(number: u32, place: usize) -> Answer
     }
 }
 
+fn stored_twice(place: usize) -> Answer
+    ensures { λ r. ⌜ r ≡ refused STORED-TWICE place ⌝ }
+{
+    refused(STORED_TWICE, place)
+}
+
 // Judges a map and a table, and stores nothing.
 pub fn judge(map: &[u8], table: &[u8], order: ByteOrder) -> Answer
     ensures { λ r. ⌜ r ≡ judgeAnswer order (now (map .entry)) (now (table .entry)) ⌝ }
@@ -45,7 +55,14 @@ pub fn judge(map: &[u8], table: &[u8], order: ByteOrder) -> Answer
     if regions.number != 0 {
         return refused(regions.number, regions.place);
     }
-    judge_table(map, table, order)
+    let answer = judge_open(map, table, order);
+    if answer.number != 0 {
+        return answer;
+    }
+    match first_repeat(map, table, order) {
+        Repeat::Nowhere => answer,
+        Repeat::At(offset) => stored_twice(offset),
+    }
 }
 
 // Loads a table into memory under a map. Nothing is stored before all of it is judged.
@@ -60,10 +77,15 @@ pub fn load(map: &[u8], table: &[u8], order: ByteOrder, memory: &mut [u8]) -> An
     if memory.len() != regions.bytes {
         return refused(MEMORY_LENGTH, 0);
     }
-    let answer = judge_table(map, table, order);
+    let answer = judge_open(map, table, order);
     if answer.number != 0 {
         return answer;
     }
-    store_sections(map, table, order, memory);
-    answer
+    match first_repeat(map, table, order) {
+        Repeat::Nowhere => {
+            store_sections(map, table, order, memory);
+            answer
+        }
+        Repeat::At(offset) => stored_twice(offset),
+    }
 }

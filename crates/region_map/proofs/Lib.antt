@@ -1,4 +1,5 @@
 pub mod RecordLaws
 pub mod FaultLaws
 pub mod OpenLaws
+pub mod OnceLaws
 pub mod PlaceLaws

@@ -14,7 +14,7 @@ use Rattle.words.proofs.ChoiceLaws.{both-ways, and-yes, and-no, or-yes, if-spli
 use Rattle.region_map.specs.declared.addresses.Found.{Found}
 use Rattle.region_map.specs.declared.addresses.Found.the-variants.{Nothing, Index}
 use Rattle.region_map.specs.Map.{count, permitted, reserved, firstAt, endAt, holds, anyHolds, isOpen, closedFrom, holder}
-use Rattle.region_map.specs.Search.{touchingBefore, touchingAfter, untilOf, permittedUntil, reservedIn, reservedFrom}
+use Rattle.region_map.specs.Search.{touchingBefore, touchingAfter, untilOf, permittedUntil, lowestIn, lowestFrom}
 use Rattle.region_map.proofs.RecordLaws.{HeldBy, last, holds-below, holds-above, holds-yes, holds-only, held-any, held-more, holder-only, holder-none}
 
 -- when the address x is open, and when not
@@ -100,60 +100,82 @@ module _ (m : List ℕ) (a : ℕ) where
       go Nothing e k = holder-none m (count m) a e
       go (Index i) e k = let h = holder-only m (count m) a i e in absurd (omega (arith, h .high, held-until m a i h .0))
 
--- a reserved record that ends past a reserves addresses from a on; any other does not
-module _ (m : List ℕ) (i a : ℕ) where
-  reserves-not : (reserved m i && ltb a (endAt m i)) ≡ false → (x : ℕ) → a ≤ x → (reserved m i && holds m i x) ≡ false
-  reserves-not e x l = go (reserved m i) refl
+-- ---- the lowest address from a on in a record of a kind
+
+-- the lowest address from a on that record i can hold
+abbrev start : List ℕ → ℕ → ℕ → ℕ
+start m i a = max a (firstAt m i)
+
+module _ (kind : ℕ → Bool) (m : List ℕ) (a : ℕ) where
+  -- a record that is of another kind, or ends before, holds no address from a on
+  kind-not : (i : ℕ) → (kind i && ltb (start m i a) (endAt m i)) ≡ false → (x : ℕ) → a ≤ x → (kind i && holds m i x) ≡ false
+  kind-not i e x l = go (kind i) refl
     where
-      go : (b : Bool) → reserved m i ≡ b → (reserved m i && holds m i x) ≡ false
+      go : (b : Bool) → kind i ≡ b → (kind i && holds m i x) ≡ false
       go false q = rw q
       go true q =
-          let k : ltb a (endAt m i) ≡ false = rw q at e in
-          and-no (reserved m i) (holds m i x) (holds-above m i x (omega (arith, ltb-false a (endAt m i) k)))
+          let k : ltb (start m i a) (endAt m i) ≡ false = rw q at e in
+          let h = ltb-false (start m i a) (endAt m i) k in
+          and-no (kind i) (holds m i x)
+          (by-cases (decLe (firstAt m i) x) (λ f. holds-above m i x (omega arith)) (λ f. holds-below m i x (omega arith)))
 
-module _ (m : List ℕ) (a : ℕ) where
-  pub reserved-low : (n : ℕ) → a ≤ 2 ^ 32 → a ≤ reservedFrom m n a
-  unfolding reservedFrom reservedIn
-  reserved-low zero h = h
-  reserved-low (suc i) h =
-      let k = reserved-low i h in
-      if-both (λ (b : ℕ). a ≤ b) (reserved m i && ltb a (endAt m i)) _ _ (omega arith) k
+  pub lowest-low : (n : ℕ) → a ≤ 2 ^ 32 → a ≤ lowestFrom kind m n a
+  unfolding lowestFrom lowestIn
+  lowest-low zero h = h
+  lowest-low (suc i) h =
+      let k = lowest-low i h in
+      if-both (λ (b : ℕ). a ≤ b) (kind i && ltb (start m i a) (endAt m i)) _ _ (omega arith) k
 
-  -- the addresses below the one that is found are in no reserved record
-  pub reserved-each : (n x : ℕ) → a ≤ x → x < reservedFrom m n a → anyHolds (reserved m) m n x ≡ false
-  unfolding reservedFrom reservedIn anyHolds
-  reserved-each zero x l u = refl
-  reserved-each (suc i) x l u = go (reserved m i && ltb a (endAt m i)) refl u (reserved-each i x l)
+  -- no record of the kind holds an address below the one that is found
+  pub lowest-each : (n x : ℕ) → a ≤ x → x < lowestFrom kind m n a → anyHolds kind m n x ≡ false
+  unfolding lowestFrom lowestIn anyHolds
+  lowest-each zero x l u = refl
+  lowest-each (suc i) x l u = go (kind i && ltb (start m i a) (endAt m i)) refl u (lowest-each i x l)
     where
-      go : (b : Bool) → (reserved m i && ltb a (endAt m i)) ≡ b
-          → x < if b (min (reservedFrom m i a) (max a (firstAt m i))) (reservedFrom m i a)
-          → (x < reservedFrom m i a → anyHolds (reserved m) m i x ≡ false) → ((reserved m i && holds m i x) || anyHolds (reserved m) m i x) ≡ false
-      go true e k ih = rw (and-no (reserved m i) (holds m i x) (holds-below m i x (omega arith)), ih (omega arith))
-      go false e k ih = rw (reserves-not m i a e x l, ih k)
+      go : (b : Bool) → (kind i && ltb (start m i a) (endAt m i)) ≡ b
+          → x < if b (min (lowestFrom kind m i a) (start m i a)) (lowestFrom kind m i a)
+          → (x < lowestFrom kind m i a → anyHolds kind m i x ≡ false) → ((kind i && holds m i x) || anyHolds kind m i x) ≡ false
+      go true e k ih = rw (and-no (kind i) (holds m i x) (holds-below m i x (omega arith)), ih (omega arith))
+      go false e k ih = rw (kind-not i e x l, ih k)
 
-  -- and where the one that is found is a, a reserved record holds it
-  pub reserved-at : (n : ℕ) → a < 2 ^ 32 → reservedFrom m n a ≤ a → anyHolds (reserved m) m n a ≡ true
-  unfolding reservedFrom reservedIn anyHolds
-  reserved-at zero h u = absurd (omega arith)
-  reserved-at (suc i) h u = go (reserved m i && ltb a (endAt m i)) refl u (reserved-at i h)
+  -- and one holds the address that is found
+  pub lowest-held : (n : ℕ) → lowestFrom kind m n a < 2 ^ 32 → anyHolds kind m n (lowestFrom kind m n a) ≡ true
+  unfolding lowestFrom lowestIn anyHolds
+  lowest-held zero h = absurd (omega arith)
+  lowest-held (suc i) h = go (kind i && ltb (start m i a) (endAt m i)) refl h (lowest-held i)
     where
-      go : (b : Bool) → (reserved m i && ltb a (endAt m i)) ≡ b
-          → if b (min (reservedFrom m i a) (max a (firstAt m i))) (reservedFrom m i a) ≤ a
-          → (reservedFrom m i a ≤ a → anyHolds (reserved m) m i a ≡ true) → ((reserved m i && holds m i a) || anyHolds (reserved m) m i a) ≡ true
-      go false e k ih = or-yes (reserved m i && holds m i a) (anyHolds (reserved m) m i a) (ih k)
+      held : ℕ → Type 0
+      held x = ((kind i && holds m i x) || anyHolds kind m i x) ≡ true
+
+      go : (b : Bool) → (kind i && ltb (start m i a) (endAt m i)) ≡ b
+          → if b (min (lowestFrom kind m i a) (start m i a)) (lowestFrom kind m i a) < 2 ^ 32
+          → (lowestFrom kind m i a < 2 ^ 32 → anyHolds kind m i (lowestFrom kind m i a) ≡ true)
+          → held (if b (min (lowestFrom kind m i a) (start m i a)) (lowestFrom kind m i a))
+      go false e k ih = or-yes (kind i && holds m i (lowestFrom kind m i a)) (anyHolds kind m i (lowestFrom kind m i a)) (ih k)
       go true e k ih =
-          let p = and-yes (reserved m i) (ltb a (endAt m i)) e in
-          by-cases (decLe (firstAt m i) a)
-          (λ f. rw (p .0, holds-yes m i a f (ltb-true a (endAt m i) (p .1))))
-          (λ f. or-yes (reserved m i && holds m i a) (anyHolds (reserved m) m i a) (ih (omega arith)))
+          let p = and-yes (kind i) (ltb (start m i a) (endAt m i)) e in
+          let u = ltb-true (start m i a) (endAt m i) (p .1) in
+          by-cases (decLe (lowestFrom kind m i a) (start m i a))
+          (λ f.
+          let q : min (lowestFrom kind m i a) (start m i a) ≡ lowestFrom kind m i a = omega arith in
+          rw q (or-yes (kind i && holds m i (lowestFrom kind m i a)) (anyHolds kind m i (lowestFrom kind m i a)) (ih (omega arith))))
+          (λ f.
+          let q : min (lowestFrom kind m i a) (start m i a) ≡ start m i a = omega arith in
+          rw (q, p .0, holds-yes m i (start m i a) (omega arith) u))
+
+  -- a is found only where one holds it
+  pub lowest-at : (n : ℕ) → a < 2 ^ 32 → lowestFrom kind m n a ≤ a → anyHolds kind m n a ≡ true
+  lowest-at n h u =
+      let e : lowestFrom kind m n a ≡ a = omega (arith, lowest-low n (omega arith)) in
+      rw e at (lowest-held n (omega arith))
 
 -- a permitted address is open where it is below the lowest reserved one from it on
-pub open-test : (m : List ℕ) (a : ℕ) → a < 2 ^ 32 → anyHolds (permitted m) m (count m) a ≡ true → ltb a (reservedFrom m (count m) a) ≡ isOpen m a
-open-test m a h p = go (decLt a (reservedFrom m (count m) a))
+pub open-test : (m : List ℕ) (a : ℕ) → a < 2 ^ 32 → anyHolds (permitted m) m (count m) a ≡ true → ltb a (lowestFrom (reserved m) m (count m) a) ≡ isOpen m a
+open-test m a h p = go (decLt a (lowestFrom (reserved m) m (count m) a))
   where
-    go : Dec (a < reservedFrom m (count m) a) → ltb a (reservedFrom m (count m) a) ≡ isOpen m a
-    go (yes l) = lt-ltb a (reservedFrom m (count m) a) l ∙ sym (open-yes m a p (reserved-each m a (count m) a (omega arith) l))
-    go (no l) = le-ltb a (reservedFrom m (count m) a) (omega arith) ∙ sym (open-reserved m a (reserved-at m a (count m) h (omega arith)))
+    go : Dec (a < lowestFrom (reserved m) m (count m) a) → ltb a (lowestFrom (reserved m) m (count m) a) ≡ isOpen m a
+    go (yes l) = lt-ltb a (lowestFrom (reserved m) m (count m) a) l ∙ sym (open-yes m a p (lowest-each (reserved m) m a (count m) a (omega arith) l))
+    go (no l) = le-ltb a (lowestFrom (reserved m) m (count m) a) (omega arith) ∙ sym (open-reserved m a (lowest-at (reserved m) m a (count m) h (omega arith)))
 
 -- the lowest closed address among n from a on: a, or one from b on where those up to b are open
 pub closed-at : (m : List ℕ) (n a : ℕ) → 0 < n → isOpen m a ≡ false → some a ≡ closedFrom m n a

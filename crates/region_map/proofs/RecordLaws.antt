@@ -126,11 +126,14 @@ holder-none m (suc n) a e =
 -- the permitted lengths up to record i, and with it
 pub size-yes : (m : List ℕ) (i s l : ℕ) → s ≡ sizeBefore m i → true ≡ permitted m i → l ≡ lengthAt m i → s + l ≡ sizeBefore m (i + 1)
 unfolding sizeBefore
-size-yes m i s l e p z = rw (add-one, ← e, ← p, ← z)
+size-yes m i s l e p z =
+    rw (e, z) (ap (λ (b : Bool). sizeBefore m i + if b (lengthAt m i) 0) p) ∙ ap (sizeBefore m) (sym (add-one i))
 
 pub size-no : (m : List ℕ) (i s : ℕ) → s ≡ sizeBefore m i → false ≡ permitted m i → s ≡ sizeBefore m (i + 1)
 unfolding sizeBefore
-size-no m i s e p = rw (add-one, ← e, ← p) (omega arith)
+size-no m i s e p =
+    let none : sizeBefore m i ≡ sizeBefore m i + 0 = omega arith in
+    e ∙ none ∙ ap (λ (b : Bool). sizeBefore m i + if b (lengthAt m i) 0) p ∙ ap (sizeBefore m) (sym (add-one i))
 
 -- the bytes of a permitted record are among those of all n
 pub size-more : (m : List ℕ) (n i : ℕ) → i < n → permitted m i ≡ true → sizeBefore m i + lengthAt m i ≤ sizeBefore m n

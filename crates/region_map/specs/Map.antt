@@ -1,4 +1,4 @@
--- The region map: its records, its first fault, the addresses that it opens, and their places in memory. m is a map.
+-- The region map: its records, its first fault, the addresses that it opens, those that take one write, and their places in memory. m is a map.
 use Prim.Native.Nat.{ℕ, zero, suc, _+_, _-_, _*_, _/_, _%_, _^_}
 use mathlib.Core.Path.{_≡_}
 use mathlib.Core.List.{List}
@@ -40,13 +40,25 @@ markSecond = 0x47
 unfoldable pub marked : List ℕ → ℕ → Bool
 marked m i = eqb (getD m (recordSize * i) 0) markFirst && eqb (getD m (recordSize * i + 1) 0) markSecond
 
--- byte 2, the kind: 1 is permitted
-unfoldable pub permitted : List ℕ → ℕ → Bool
-permitted m i = eqb (getD m (recordSize * i + 2) 0) 1
+-- byte 2: the kind
+abbrev pub kindAt : List ℕ → ℕ → ℕ
+kindAt m i = getD m (recordSize * i + 2) 0
 
--- 2 is reserved
+-- record i is of the kind k
+abbrev pub isKind : List ℕ → ℕ → ℕ → Bool
+isKind m k i = eqb (kindAt m i) k
+
+-- kinds 1 and 3 are permitted
+unfoldable pub permitted : List ℕ → ℕ → Bool
+permitted m i = isKind m 1 i || isKind m 3 i
+
+-- kind 2 is reserved
 unfoldable pub reserved : List ℕ → ℕ → Bool
-reserved m i = eqb (getD m (recordSize * i + 2) 0) 2
+reserved m i = isKind m 2 i
+
+-- kind 3 takes one write at each address in a load
+unfoldable pub oneWrite : List ℕ → ℕ → Bool
+oneWrite m i = isKind m 3 i
 
 -- no other kind is known
 unfoldable pub known : List ℕ → ℕ → Bool
@@ -112,6 +124,10 @@ anyHolds kind m (suc i) a = (kind i && holds m i a) || anyHolds kind m i a
 -- an address is open when a permitted record holds it and no reserved record does
 unfoldable pub isOpen : List ℕ → ℕ → Bool
 isOpen m a = anyHolds (permitted m) m (count m) a && not (anyHolds (reserved m) m (count m) a)
+
+-- an address takes one write when a record of kind 3 holds it
+unfoldable pub once : List ℕ → ℕ → Bool
+once m a = anyHolds (oneWrite m) m (count m) a
 
 -- the lowest of the n addresses from a on that is not open, if there is one
 unfoldable pub closedFrom : List ℕ → ℕ → ℕ → Option ℕ

@@ -2,10 +2,10 @@
 use Prim.Native.Nat.{ℕ, zero, suc, _+_, _-_, _^_, _≤_, _<_, min, max}
 use mathlib.Core.Path.{_≡_}
 use mathlib.Core.List.{List}
-use mathlib.Core.Bool.{true, _&&_}
+use mathlib.Core.Bool.{Bool, true, _&&_}
 use lib.Dec.{ltb}
 use Rattle.words.specs.Choice.{if}
-use Rattle.region_map.specs.Map.{count, permitted, reserved, firstAt, endAt, holds, sizeBefore, memorySize, holder, placeOf}
+use Rattle.region_map.specs.Map.{count, permitted, firstAt, endAt, holds, sizeBefore, memorySize, holder, placeOf}
 use Rattle.region_map.specs.declared.addresses.Found.{Found}
 use Rattle.region_map.specs.declared.addresses.Found.the-variants.{Nothing, Index}
 use Rattle.region_map.specs.declared.places.Region.{Region}
@@ -29,14 +29,14 @@ untilOf m a (Index i) = touchingAfter m (count m - suc i) (suc i) (touchingBefor
 unfoldable pub permittedUntil : List ℕ → ℕ → ℕ
 permittedUntil m a = untilOf m a (holder m (count m) a)
 
--- the lowest address from a on in record i, if it is reserved, or a bound that is lower
-unfoldable pub reservedIn : List ℕ → ℕ → ℕ → ℕ → ℕ
-reservedIn m i a bound = if (reserved m i && ltb a (endAt m i)) (min bound (max a (firstAt m i))) bound
+-- the lowest address from a on in record i, if that is of a kind, or a bound that is lower
+unfoldable pub lowestIn : (ℕ → Bool) → List ℕ → ℕ → ℕ → ℕ → ℕ
+lowestIn kind m i a bound = if (kind i && ltb (max a (firstAt m i)) (endAt m i)) (min bound (max a (firstAt m i))) bound
 
--- the lowest address from a on in a reserved one of the first n records, or 2^32
-unfoldable pub reservedFrom : List ℕ → ℕ → ℕ → ℕ
-reservedFrom m zero a = 2 ^ 32
-reservedFrom m (suc i) a = reservedIn m i a (reservedFrom m i a)
+-- the lowest address from a on in one of the first n records that are of a kind, or 2^32
+unfoldable pub lowestFrom : (ℕ → Bool) → List ℕ → ℕ → ℕ → ℕ
+lowestFrom kind m zero a = 2 ^ 32
+lowestFrom kind m (suc i) a = lowestIn kind m i a (lowestFrom kind m i a)
 
 -- the addresses of the record that was found, and the place of the first; none where none was
 abbrev pub regionIn : List ℕ → Found → Region

@@ -1,14 +1,16 @@
-// Open addresses: how far a permitted record holds them, and how far no reserved record does.
+// Open addresses: how far a permitted record holds them, and how far no reserved record does; and addresses that take one write.
 ghost use mathlib.Core.Path.{_≡_};
 ghost use mathlib.Core.Bool.{_&&_};
 ghost use Prim.Native.Nat.{_-_, _≤_, _<_};
-ghost use Rattle.region_map.specs.Map.{count, permitted, holds, isOpen, holder};
-ghost use Rattle.region_map.specs.Search.{touchingBefore, touchingAfter, permittedUntil, reservedIn, reservedFrom};
+ghost use Rattle.region_map.specs.Map.{count, isKind, permitted, reserved, oneWrite, holds, isOpen, holder};
+ghost use Rattle.region_map.specs.Search.{touchingBefore, touchingAfter, permittedUntil, lowestIn, lowestFrom};
+use crate::records::ONE_WRITE;
 use crate::records::RECORD_SIZE;
+use crate::records::RESERVED;
 use crate::records::end_at;
 use crate::records::first_at;
 use crate::records::is_permitted;
-use crate::records::is_reserved;
+use crate::records::kind_at;
 use crate::records::record_holds;
 use words::TOP;
 use words::higher;
@@ -20,15 +22,15 @@ pub enum Found {
     Index(usize),
 }
 
-// Whether record i is permitted and holds the address.
+// Whether record i is permitted and holds the address. Most records do not hold it, so that is asked first.
 fn permits(map: &[u8], i: usize, address: u64) -> bool
     requires { ⌜ i < count (now map) ⌝ }
     ensures { λ r. ⌜ r ≡ (permitted (now (map .entry)) i && holds (now (map .entry)) i address) ⌝ }
 {
-    if !is_permitted(map, i) {
+    if !record_holds(map, i, address) {
         return false;
     }
-    record_holds(map, i, address)
+    is_permitted(map, i)
 }
 
 // The permitted record that holds an address.
@@ -95,32 +97,47 @@ pub fn permitted_until(map: &[u8], address: u64) -> u64
     }
 }
 
-// The lowest address from one on in record i, if it is reserved, or a bound that is lower.
-fn reserved_in(map: &[u8], i: usize, address: u64, bound: u64) -> u64
+// The lowest address from one on in record i, if that is of a kind, or a bound that is lower.
+fn lowest_in(map: &[u8], kind: u8, i: usize, address: u64, bound: u64) -> u64
     requires { ⌜ i < count (now map) ⌝ }
-    ensures { λ r. ⌜ r ≡ reservedIn (now (map .entry)) i address bound ⌝ }
+    ensures { λ r. ⌜ r ≡ lowestIn (isKind (now (map .entry)) kind) (now (map .entry)) i address bound ⌝ }
 {
-    if !is_reserved(map, i) {
+    if kind_at(map, i) != kind {
         return bound;
     }
-    if end_at(map, i) <= address {
+    let lowest = higher(address, first_at(map, i));
+    if end_at(map, i) <= lowest {
         return bound;
     }
-    lower(bound, higher(address, first_at(map, i)))
+    lower(bound, lowest)
 }
 
-// The lowest address from one on in a reserved record, or 2^32.
-pub fn reserved_from(map: &[u8], address: u64) -> u64
-    ensures { λ r. ⌜ r ≡ reservedFrom (now (map .entry)) (count (now (map .entry))) address ⌝ }
+// The lowest address from one on in a record of a kind, or 2^32.
+fn lowest_from(map: &[u8], kind: u8, address: u64) -> u64
+    ensures { λ r. ⌜ r ≡ lowestFrom (isKind (now (map .entry)) kind) (now (map .entry)) (count (now (map .entry))) address ⌝ }
 {
     let n = map.len() / RECORD_SIZE;
     let mut bound = TOP;
     let mut i = 0;
     while i < n {
-        bound = reserved_in(map, i, address, bound);
+        bound = lowest_in(map, kind, i, address, bound);
         i += 1;
     }
     bound
+}
+
+// The lowest address from one on in a reserved record, or 2^32.
+pub fn reserved_from(map: &[u8], address: u64) -> u64
+    ensures { λ r. ⌜ r ≡ lowestFrom (reserved (now (map .entry))) (now (map .entry)) (count (now (map .entry))) address ⌝ }
+{
+    lowest_from(map, RESERVED, address)
+}
+
+// The lowest address from one on that takes one write, or 2^32.
+pub fn once_from(map: &[u8], address: u64) -> u64
+    ensures { λ r. ⌜ r ≡ lowestFrom (oneWrite (now (map .entry))) (now (map .entry)) (count (now (map .entry))) address ⌝ }
+{
+    lowest_from(map, ONE_WRITE, address)
 }
 
 // Whether an address is open.

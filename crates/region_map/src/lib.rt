@@ -1,4 +1,5 @@
-// The region map: its records and their first fault, the addresses that it opens, and their places in memory.
+// The region map: its records and their first fault, the addresses that it opens and those that take one write, and their
+// places in memory.
 // The map is read where it stands, and every loop goes by records.
 ghost use mathlib.Core.Path.{_≡_};
 ghost use Rattle.region_map.specs.Map.{mapRefused, mapAnswer};
@@ -13,6 +14,7 @@ mod places;
 mod records;
 
 pub use addresses::is_open;
+pub use addresses::once_from;
 pub use addresses::permitted_until;
 pub use addresses::reserved_from;
 pub use places::Region;

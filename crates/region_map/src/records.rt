@@ -5,6 +5,7 @@ ghost use Prim.Native.Nat.{_+_, _^_, _<_};
 ghost use Rattle.region_map.specs.Map.{
   count,
   marked,
+  kindAt,
   permitted,
   reserved,
   known,
@@ -35,6 +36,13 @@ const MARK_FIRST: u8 = 0x52;
 
 const MARK_SECOND: u8 = 0x47;
 
+// The kinds of records. One that takes one write is permitted too.
+const PERMITTED: u8 = 1;
+
+pub const RESERVED: u8 = 2;
+
+pub const ONE_WRITE: u8 = 3;
+
 // What is wrong with a map: nothing, its length, or its first record that breaks a rule.
 pub enum MapFault {
     Sound,
@@ -54,21 +62,33 @@ fn is_marked(map: &[u8], i: usize) -> bool
     map[RECORD_SIZE * i + 1] == MARK_SECOND
 }
 
+// The kind of record i.
+pub fn kind_at(map: &[u8], i: usize) -> u8
+    requires { ⌜ i < count (now map) ⌝ }
+    ensures { λ r. ⌜ r ≡ kindAt (now (map .entry)) i ⌝ }
+{
+    map[RECORD_SIZE * i + 2]
+}
+
 pub fn is_permitted(map: &[u8], i: usize) -> bool
     requires { ⌜ i < count (now map) ⌝ }
     ensures { λ r. ⌜ r ≡ permitted (now (map .entry)) i ⌝ }
 {
-    map[RECORD_SIZE * i + 2] == 1
+    let kind = kind_at(map, i);
+    if kind == PERMITTED {
+        return true;
+    }
+    kind == ONE_WRITE
 }
 
-pub fn is_reserved(map: &[u8], i: usize) -> bool
+fn is_reserved(map: &[u8], i: usize) -> bool
     requires { ⌜ i < count (now map) ⌝ }
     ensures { λ r. ⌜ r ≡ reserved (now (map .entry)) i ⌝ }
 {
-    map[RECORD_SIZE * i + 2] == 2
+    kind_at(map, i) == RESERVED
 }
 
-// Whether the kind is one of the two.
+// Whether the kind is permitted or reserved.
 fn is_known(map: &[u8], i: usize) -> bool
     requires { ⌜ i < count (now map) ⌝ }
     ensures { λ r. ⌜ r ≡ known (now (map .entry)) i ⌝ }

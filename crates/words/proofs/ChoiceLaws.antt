@@ -18,6 +18,10 @@ pub and-no : (a b : Bool) → b ≡ false → (a && b) ≡ false
 and-no true b e = e
 and-no false b e = refl
 
+pub and-given : (a b : Bool) → b ≡ true → (a && b) ≡ a
+and-given true b e = e
+and-given false b e = refl
+
 pub or-yes : (a b : Bool) → b ≡ true → (a || b) ≡ true
 or-yes true b e = refl
 or-yes false b e = e

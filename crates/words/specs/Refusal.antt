@@ -74,3 +74,7 @@ STRAP-LONG = 18
 -- the strap value is reserved
 abbrev pub STRAP-RESERVED : ℕ
 STRAP-RESERVED = 19
+
+-- an address that takes one write is stored twice
+abbrev pub STORED-TWICE : ℕ
+STORED-TWICE = 29

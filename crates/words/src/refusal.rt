@@ -55,3 +55,6 @@ pub const STRAP_LONG: u32 = 18;
 
 // The strap value is reserved.
 pub const STRAP_RESERVED: u32 = 19;
+
+// An address that takes one write is stored twice.
+pub const STORED_TWICE: u32 = 29;

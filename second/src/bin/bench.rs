@@ -106,7 +106,8 @@ fn print_header() {
     println!("Buffers are touched once before timing: tables, memory, output, values.");
     println!("case: the order of the sections (load, judge, join), of the records (map), of the");
     println!("entries (configure). Under a table the records touch and stand in falling order;");
-    println!("apart: they do not touch; reserved: half of them are reserved.");
+    println!("apart: they do not touch; reserved: half of them are reserved; once: half of the");
+    println!("sections lie in kind 3, or all of them where there is one record.");
     println!("sections, bytes: of the table, for join of both tables; bytes are data bytes,");
     println!("for configure those of the entries. records: map records.");
     println!("memcpy: copy_from_slice of as many bytes; none where the call copies nothing.");
@@ -449,6 +450,43 @@ fn reserved(numbers: &mut Numbers, sections: usize, size: usize) {
     load_and_judge("reserved", &falling(rows.reserved()), &mut table);
 }
 
+/// Sections of 64 bytes in rising, falling and random order, under two records
+/// that touch, of which the lower is of kind 3 and holds half of the sections.
+fn one_write(numbers: &mut Numbers, sections: usize) {
+    let rows = Rows {
+        sections,
+        size: 64,
+        rows: 1,
+        gap: 0,
+    };
+    let mut records = touching(2, sections * rows.size);
+    records[0].0 = 3;
+    let map = falling(records);
+    let mut addresses = rows.addresses();
+    let line = |case, numbers: &mut Numbers, addresses: &[u32]| {
+        let mut table = even_table(numbers, addresses, rows.size);
+        load_and_judge(case, &map, &mut table);
+    };
+    line("rising, once", numbers, &addresses);
+    addresses.reverse();
+    line("falling, once", numbers, &addresses);
+    numbers.shuffle(&mut addresses);
+    line("random, once", numbers, &addresses);
+}
+
+/// The most sections of one byte, one after the other, all of them in kind 3.
+fn most_once(numbers: &mut Numbers) {
+    let rows = Rows {
+        sections: most(1),
+        size: 1,
+        rows: 1,
+        gap: 0,
+    };
+    let mut table = even_table(numbers, &rows.addresses(), 1);
+    let map = cases::map(&[(3, BASE, rows.sections as u32)]);
+    load_and_judge("rising, once", &map, &mut table);
+}
+
 // The other calls.
 
 /// A map alone.
@@ -678,6 +716,11 @@ fn main() {
     reserved(&mut numbers, 1000, 16 * 1024);
     reserved(&mut numbers, most(1), 1);
     random(&mut numbers);
+    // Memory that takes one write.
+    for sections in [1000, 10_000] {
+        one_write(&mut numbers, sections);
+    }
+    most_once(&mut numbers);
     maps(&mut numbers);
     for count in [1, 100, 10_000] {
         join(&mut numbers, count);

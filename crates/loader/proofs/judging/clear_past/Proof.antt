@@ -1,5 +1,5 @@
 -- `loader::judging::clear_past`: what is known goes past the address, or the lowest reserved one from it on is found.
-use Rattle.region_map.proofs.OpenLaws.{reserved-low, reserved-each, reserved-at}
+use Rattle.region_map.proofs.OpenLaws.{lowest-low, lowest-each, lowest-at}
 use native.Mathlib.Omega.{arith}
 use mathlib.Core.Path.{sym, _∙_}
 use borrow.Author.Needs.{needs}
@@ -17,9 +17,9 @@ returns-2 c =
     let s = c .before .before .before in
     let e = c .reserved-from .ensures in
     record {
-      low = rw e (reserved-low _ _ _ (omega (arith, s .pre .0)));
-      clear = λ x l u. reserved-each _ _ _ x l (rw e at u);
-      why = λ q. reserved-at _ _ _ (s .pre .0) (omega (arith, sym e ∙ q));
+      low = rw e (lowest-low _ _ _ _ (omega (arith, s .pre .0)));
+      clear = λ x l u. lowest-each _ _ _ _ x l (rw e at u);
+      why = λ q. lowest-at _ _ _ _ (s .pre .0) (omega (arith, sym e ∙ q));
     }
 
 pub clear-past-spec : {M : Type 1} → statement M

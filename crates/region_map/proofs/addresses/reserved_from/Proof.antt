@@ -1,40 +1,15 @@
--- `region_map::addresses::reserved_from`: after i turns the bound is that of the first i records.
-use Rattle.region_map.specs.Map.{count}
-use Rattle.region_map.specs.Search.{reservedFrom}
-use native.Mathlib.Numerals.{add-one}
-use native.Mathlib.Omega.{arith}
-use mathlib.Core.Path.{_≡_, refl}
-use Prim.Native.Nat.{_≤_, _-_}
+-- `region_map::addresses::reserved_from`: the search for the kind.
+use Rattle.region_map.specs.Map.{reserved}
+use borrow.Author.Needs.{needs}
 use Rattle.region_map.proofs.addresses.reserved_from.Statement.{statement}
 use Rattle.region_map.proofs.addresses.reserved_from.Tie as tie
 
-abbrev Inv-loop : tie.InvT-loop
-Inv-loop map address n bound₀ i₀ bound i = (i ≤ n) × (bound ≡ reservedFrom map i address)
+lowest-from-requires : tie.Need-lowest-from-requires
+lowest-from-requires c κs = search needs
 
-abbrev μ-loop : tie.MeasureT-loop
-μ-loop map address n bound₀ i₀ bound i = n - i
-
-loop-holds : tie.Need-loop-holds Inv-loop μ-loop
-unfolding reservedFrom
-loop-holds c = (omega arith, refl)
-
-reserved-in-requires : tie.Need-reserved-in-requires Inv-loop μ-loop
-reserved-in-requires c κs = omega arith
-
-add-i : tie.Need-add-i Inv-loop μ-loop
-add-i c = omega arith
-
-loop-less : tie.Need-loop-less Inv-loop μ-loop
-loop-less c = omega arith
-
-loop-again : tie.Need-loop-again Inv-loop μ-loop
-unfolding reservedFrom
-loop-again c = (omega arith, rw (add-one, ← (c .before .before .loop .inv .1)) (c .reserved-in .ensures))
-
-returns : tie.Need-returns Inv-loop μ-loop
-returns c = let e : c .before .loop .i ≡ count (c .before .before .before .args .map .now) = omega arith in rw (← e) (c .before .loop .inv .1)
+returns : tie.Need-returns
+unfolding reserved
+returns c = c .lowest-from .ensures
 
 pub reserved-from-spec : {M : Type 1} → statement M
-reserved-from-spec =
-    tie.close
-    (tie.spec Inv-loop μ-loop loop-holds reserved-in-requires add-i loop-less loop-again returns)
+reserved-from-spec = tie.close (tie.spec lowest-from-requires returns)
