@@ -8,10 +8,10 @@
  * argument.
  *
  * answer[0], the number, is 0 or that of a refusal. answer[1], the place, is
- * where a refusal arose: a byte offset into the table, or the index of a map
- * record; 0 where there is no such place. After a refusal memory, output and
- * values are unchanged, and all answers from answer[2] on are 0 but those
- * that are said to speak of a refusal.
+ * where a refusal arose: a byte offset into the table, the index of a map
+ * record, or the index of a section in a list; 0 where there is no such place.
+ * After a refusal memory, output and values are unchanged, and all answers from
+ * answer[2] on are 0 but those that are said to speak of a refusal.
  *
  * low_first names the byte order of the header words of a boot table, which
  * are its entry and each section's size and address: true for the low byte
@@ -59,6 +59,8 @@ enum {
     TUNEHARBOR_BRANCH = 17,          /* a branch is asked for */
     TUNEHARBOR_STRAP_LONG = 18,      /* the strap value is over 8,191 */
     TUNEHARBOR_STRAP_RESERVED = 19,  /* the strap value is reserved */
+    TUNEHARBOR_PAST_DATA = 20,       /* a section's start plus size is past the data */
+    TUNEHARBOR_SIZE_ZERO = 21,       /* a section's size is zero */
     TUNEHARBOR_STORED_TWICE = 29     /* an address of kind 3 is stored twice */
 };
 
@@ -80,7 +82,7 @@ void tuneharbor_map(const uint8_t *map, size_t map_len, uint64_t answer[3]);
  * which an earlier section of the same table has stored. Under a map with kind 3
  * a table whose sections neither rise nor fall takes time by pairs of sections.
  * The worst has 1,398,100 of them, the most that a table can have, all in kind 3;
- * it would take some 50 minutes on the server of docs/BENCHMARK.md.
+ * it would take 50 to 90 minutes on the servers of docs/BENCHMARK.md.
  *
  * answer[0] number
  * answer[1] place
@@ -119,6 +121,33 @@ void tuneharbor_join(const uint8_t *first, size_t first_len,
                      const uint8_t *second, size_t second_len, bool low_first,
                      uint8_t *output, size_t output_len,
                      uint64_t answer[5]);
+
+/* A section of a list for tuneharbor_write: the address of its first byte, and
+ * where in the data its bytes stand, size of them from start on. */
+typedef struct {
+    uint32_t address, start, size;
+} tuneharbor_section;
+
+/* Writes a boot table: the entry address, the sections of a list in the list's
+ * order, each with its bytes of the data and zero pads, and the zero word. No
+ * sections are merged; they may share data, and addresses. sections_len is in
+ * sections. The table has 8 bytes, and for each section 8 more and its size
+ * rounded up to a multiple of four. The output past the table is unchanged.
+ *
+ * The first bad section of the list is refused with the first of
+ * TUNEHARBOR_SIZE_ZERO, TUNEHARBOR_PAST_DATA and TUNEHARBOR_PAST_TOP that holds,
+ * and the place is its index, from 0 on. Where no section is bad,
+ * TUNEHARBOR_RESULT_LONG comes before TUNEHARBOR_OUTPUT_SHORT.
+ *
+ * answer[0] number
+ * answer[1] place
+ * answer[2] the table's length in bytes
+ * answer[3] how many sections the table has */
+void tuneharbor_write(uint32_t entry,
+                      const tuneharbor_section *sections, size_t sections_len,
+                      const uint8_t *data, size_t data_len, bool low_first,
+                      uint8_t *output, size_t output_len,
+                      uint64_t answer[4]);
 
 /* Sets and clears bits of registers by a configuration table. A register has
  * its address and its value at one index of the two lists. Lists of different

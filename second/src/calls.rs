@@ -4,8 +4,8 @@
 //! written shows, and has two more elements that must stay as they were.
 
 use crate::reference::{
-    ByteOrder, ConfigAnswer, JoinAnswer, LabelAnswer, LoadAnswer, MapAnswer, SameAnswer,
-    StrapAnswer,
+    ByteOrder, ConfigAnswer, JoinAnswer, LabelAnswer, ListSection, LoadAnswer, MapAnswer,
+    SameAnswer, StrapAnswer, WriteAnswer,
 };
 
 extern "C" {
@@ -33,6 +33,17 @@ extern "C" {
         first_len: usize,
         second: *const u8,
         second_len: usize,
+        low_first: bool,
+        output: *mut u8,
+        output_len: usize,
+        answer: *mut u64,
+    );
+    fn tuneharbor_write(
+        entry: u32,
+        sections: *const ListSection,
+        sections_len: usize,
+        data: *const u8,
+        data_len: usize,
         low_first: bool,
         output: *mut u8,
         output_len: usize,
@@ -156,6 +167,36 @@ pub fn join(first: &[u8], second: &[u8], order: ByteOrder, output: &mut [u8]) ->
         number,
         place,
         table,
+        length,
+        sections,
+    }
+}
+
+pub fn write(
+    entry: u32,
+    list: &[ListSection],
+    data: &[u8],
+    order: ByteOrder,
+    output: &mut [u8],
+) -> WriteAnswer {
+    // Safety: the slices live through the call, output is lent to it alone;
+    // a section is laid out as in C; the answer has 4 elements.
+    let [number, place, length, sections] = answered(|answer| unsafe {
+        tuneharbor_write(
+            entry,
+            list.as_ptr(),
+            list.len(),
+            data.as_ptr(),
+            data.len(),
+            low_first(order),
+            output.as_mut_ptr(),
+            output.len(),
+            answer,
+        )
+    });
+    WriteAnswer {
+        number,
+        place,
         length,
         sections,
     }

@@ -1,8 +1,8 @@
-//! Builders for maps and tables, and the generated cases. All cases follow
+//! Builders for maps, tables and lists, and the generated cases. All cases follow
 //! from one seed. The variable TUNEHARBOR_SEED changes the seed and
 //! TUNEHARBOR_CASES the count of generated cases.
 
-use crate::reference::{self, ByteOrder, CONFIG_LIMIT, TOP};
+use crate::reference::{self, ByteOrder, ListSection, CONFIG_LIMIT, TABLE_LIMIT, TOP};
 
 /// The seed where TUNEHARBOR_SEED names no other.
 pub const SEED: u64 = 20_261_115;
@@ -187,6 +187,18 @@ pub fn padded_table(entry: u32, sections: &[(u32, &[u8], &[u8])], order: ByteOrd
     }
     bytes.extend([0; 4]);
     bytes
+}
+
+/// A list for the writer from address, start and size of each section.
+pub fn list(sections: &[(u32, u32, u32)]) -> Vec<ListSection> {
+    sections
+        .iter()
+        .map(|&(address, start, size)| ListSection {
+            address,
+            start,
+            size,
+        })
+        .collect()
 }
 
 /// Configuration entries from address, bits to set and bits to clear, with no
@@ -923,6 +935,198 @@ pub fn join_case(numbers: &mut Numbers) -> JoinCase {
         first,
         second,
         order,
+        output: numbers.bytes(size as usize),
+    }
+}
+
+// Lists of sections.
+
+/// A case for the writer.
+#[derive(Clone, Debug)]
+pub struct WriteCase {
+    pub entry: u32,
+    pub list: Vec<ListSection>,
+    pub data: Vec<u8>,
+    pub order: ByteOrder,
+    pub output: Vec<u8>,
+}
+
+/// How many bytes a section of a size takes in a table.
+fn section_length(size: u32) -> u64 {
+    8 + u64::from(size).next_multiple_of(4)
+}
+
+/// A section of a list over so many data bytes, at least one, without a fault.
+/// Its data goes on where that of the section before ends, shares bytes with it
+/// or stands anywhere. Its addresses touch those of the section before, lie near
+/// them, overlap them, end at the top or lie anywhere.
+fn listed(
+    numbers: &mut Numbers,
+    length: u64,
+    longest: u64,
+    before: Option<&ListSection>,
+) -> ListSection {
+    let before =
+        before.map(|section| [section.address, section.start, section.size].map(u64::from));
+    let start = match (numbers.below(6), before) {
+        (0 | 1, Some([_, start, size])) => start + size,
+        (2, Some([_, start, _])) => start,
+        (3, Some([_, start, size])) => start + numbers.below(size),
+        _ => numbers.below(length),
+    };
+    let start = start.min(length - 1);
+    let left = length - start;
+    let size = match numbers.below(8) {
+        // To the data's end.
+        0 => left,
+        _ => numbers.from_to(1, longest.min(left)),
+    };
+    let random = u64::from(numbers.word());
+    let address = match (numbers.below(6), before) {
+        (0 | 1, Some([address, _, size])) => {
+            address + size + numbers.pick(&[0, 0, 0, 1, 2, 3, 15, 16])
+        }
+        (2, Some([address, _, size])) => address + numbers.below(size),
+        (3, _) => numbers.pick(&[0, 1, 0x0080_0000, TOP - size, TOP - size - 1]),
+        _ => random,
+    };
+    ListSection {
+        address: address.min(TOP - size) as u32,
+        start: start as u32,
+        size: size as u32,
+    }
+}
+
+/// Gives a section of a list over so many data bytes a fault or two, mostly at an
+/// edge. A section of size zero cannot run past the top.
+fn spoil(numbers: &mut Numbers, section: &mut ListSection, length: u32) {
+    // Starts past the data, the last two so that the sum wraps in 32 bits.
+    let past_data = |size: u32| {
+        [
+            (length + 1).saturating_sub(size),
+            length + 1,
+            0u32.wrapping_sub(size),
+            0xFFFF_FFFF,
+        ]
+    };
+    match numbers.below(8) {
+        0 => section.size = 0,
+        // Size zero at the data's end, and past it.
+        1 => (section.start, section.size) = (length, 0),
+        2 => {
+            section.size = 0;
+            section.start = numbers.pick(&[length + 1, 0xFFFF_FFFF]);
+            section.address = numbers.pick(&[section.address, 0xFFFF_FFFF]);
+        }
+        // Not size zero at the data's end.
+        3 => section.start = length,
+        4 => section.start = numbers.pick(&past_data(section.size)),
+        // A size past the data, and mostly past the top.
+        5 => {
+            let edge = (length + 1).saturating_sub(section.start);
+            let top = 0u32.wrapping_sub(section.start);
+            section.size = numbers.pick(&[edge, edge, top, top.wrapping_add(1), 0xFFFF_FFFF]);
+        }
+        // Past the top alone, if the data has two bytes; and past the data too.
+        6 => {
+            section.start = section.start.min(length.saturating_sub(2));
+            section.size = section.size.max(2);
+            section.address = numbers.pick(&[0xFFFF_FFFF, 1u32.wrapping_sub(section.size)]);
+        }
+        _ => {
+            section.size = section.size.max(2);
+            section.start = numbers.pick(&past_data(section.size));
+            section.address = numbers.pick(&[0xFFFF_FFFF, 1u32.wrapping_sub(section.size)]);
+        }
+    }
+}
+
+/// A list whose table has the most bytes that the limit takes, or more, over
+/// 65,536 data bytes.
+fn long_list(numbers: &mut Numbers) -> Vec<ListSection> {
+    let over = numbers.pick(&[0, 4, 500_000, 500_000]);
+    let mut left = TABLE_LIMIT as u64 + over - 8;
+    let mut list = Vec::new();
+    while left > 0 {
+        let size = match left {
+            // The last section takes what is left, with any count of pads.
+            ..=65_544 => left - 8 - numbers.below(4),
+            _ => numbers.from_to(60_000, 65_000),
+        } as u32;
+        let start = numbers.below(65_537 - u64::from(size)) as u32;
+        list.push(ListSection {
+            address: numbers.word() >> 1,
+            start,
+            size,
+        });
+        left -= section_length(size);
+    }
+    numbers.shuffle(&mut list);
+    list
+}
+
+/// A case for the writer: in half of the cases the list has no fault, in the
+/// others one bad section or a few. One case in thirty has a long list.
+pub fn write_case(numbers: &mut Numbers) -> WriteCase {
+    let long = numbers.once_in(30);
+    let data = match numbers.below(20) {
+        _ if long => numbers.bytes(256).repeat(256),
+        0 => Vec::new(),
+        1..=3 => {
+            let length = numbers.from_to(1, 4) as usize;
+            numbers.bytes(length)
+        }
+        _ => {
+            let length = numbers.from_to(5, 80) as usize;
+            numbers.bytes(length)
+        }
+    };
+    let length = data.len() as u64;
+    let wanted = match numbers.below(40) {
+        0 => numbers.from_to(20, 120),
+        1 | 2 => 0,
+        _ => numbers.from_to(1, 6),
+    };
+    let longest = numbers.pick(&[1, 4, 9, 24]);
+    let mut list: Vec<ListSection> = Vec::new();
+    if long {
+        list = long_list(numbers);
+    } else if length > 0 {
+        for _ in 0..wanted {
+            list.push(listed(numbers, length, longest, list.last()));
+        }
+    } else if numbers.once_in(2) {
+        // No data, and so no section without a fault.
+        list.push(ListSection {
+            address: numbers.word(),
+            start: 0,
+            size: numbers.below(4) as u32,
+        });
+    }
+    let result: u64 = 8 + list
+        .iter()
+        .map(|section| section_length(section.size))
+        .sum::<u64>();
+    if !list.is_empty() && numbers.once_in(2) {
+        for _ in 0..numbers.pick(&[1, 1, 2, 3]) {
+            let index = numbers.index(list.len());
+            spoil(numbers, &mut list[index], length as u32);
+        }
+    }
+    let size = match numbers.below(10) {
+        // A long list's output is too short.
+        _ if long => numbers.below(100),
+        0 => result - 1,
+        1 => numbers.pick(&[0, 4, result / 2, result - 4]),
+        2..=5 => result + numbers.from_to(1, 40),
+        _ => result,
+    };
+    let random = numbers.word();
+    WriteCase {
+        entry: numbers.pick(&[0, 1, 0x0080_0000, 0xFFFF_FFFF, random, random]),
+        list,
+        data,
+        order: numbers.order(),
         output: numbers.bytes(size as usize),
     }
 }

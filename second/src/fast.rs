@@ -3,11 +3,14 @@
 //! the form and the map rule are judged in one walk, bytes are copied in whole
 //! runs, and strap values are taken apart with shifts and masks. Where the map
 //! has records of kind 3, that walk also sees whether the sections rise or fall;
-//! if they do neither, their parts of kind 3 are sorted.
+//! if they do neither, their parts of kind 3 are sorted. The writer goes through
+//! its list twice, to judge it and to write, and writes up to four data bytes
+//! with their pads as one word.
 
 use crate::reference::{
-    ByteOrder, ConfigAnswer, JoinAnswer, LabelAnswer, LoadAnswer, MapAnswer, Refusal, SameAnswer,
-    StrapAnswer, CONFIG_LIMIT, MAP_LIMIT, REGISTER_LIMIT, STRAP_LIMIT, TABLE_LIMIT, TOP,
+    ByteOrder, ConfigAnswer, JoinAnswer, LabelAnswer, ListSection, LoadAnswer, MapAnswer, Refusal,
+    SameAnswer, StrapAnswer, WriteAnswer, CONFIG_LIMIT, MAP_LIMIT, REGISTER_LIMIT, STRAP_LIMIT,
+    TABLE_LIMIT, TOP,
 };
 use std::borrow::Cow;
 use std::cell::OnceCell;
@@ -628,6 +631,119 @@ fn join_in<const LOW_FIRST: bool>(first: &[u8], second: &[u8], output: &mut [u8]
         length: length as u64,
         sections,
         ..Default::default()
+    }
+}
+
+// The writer.
+
+/// The bytes of a header word.
+fn header_bytes<const LOW_FIRST: bool>(value: u32) -> [u8; 4] {
+    if LOW_FIRST {
+        value.to_le_bytes()
+    } else {
+        value.to_be_bytes()
+    }
+}
+
+/// The length of the table of a list, or the first fault of its first bad
+/// section.
+fn judge_list(list: &[ListSection], data: &[u8]) -> Result<u64, Refusal> {
+    let mut length: u64 = 8;
+    for (index, section) in list.iter().enumerate() {
+        let size = u64::from(section.size);
+        if size == 0 {
+            return refuse(21, index);
+        }
+        if u64::from(section.start) + size > data.len() as u64 {
+            return refuse(20, index);
+        }
+        if u64::from(section.address) + size > TOP {
+            return refuse(8, index);
+        }
+        length = length.saturating_add(next_section(0, section.size) as u64);
+    }
+    Ok(length)
+}
+
+pub fn write(
+    entry: u32,
+    list: &[ListSection],
+    data: &[u8],
+    order: ByteOrder,
+    output: &mut [u8],
+) -> WriteAnswer {
+    let refused = |refusal: Refusal| WriteAnswer {
+        number: refusal.number,
+        place: refusal.place,
+        ..Default::default()
+    };
+    let length = match judge_list(list, data) {
+        Err(refusal) => return refused(refusal),
+        Ok(length) => length,
+    };
+    if length > TABLE_LIMIT as u64 || length > output.len() as u64 {
+        return refused(Refusal {
+            number: if length > TABLE_LIMIT as u64 { 10 } else { 11 },
+            place: 0,
+        });
+    }
+    let result = &mut output[..length as usize];
+    match order {
+        ByteOrder::HighFirst => put::<false>(entry, list, data, result),
+        ByteOrder::LowFirst => put::<true>(entry, list, data, result),
+    }
+    WriteAnswer {
+        length,
+        sections: list.len() as u64,
+        ..Default::default()
+    }
+}
+
+/// Writes the table of a list without faults into bytes of its length. Not
+/// inlined, so that the loops of both orders are compiled alike.
+#[inline(never)]
+fn put<const LOW_FIRST: bool>(entry: u32, list: &[ListSection], data: &[u8], result: &mut [u8]) {
+    let (first, mut rest) = result.split_at_mut(4);
+    first.copy_from_slice(&header_bytes::<LOW_FIRST>(entry));
+    for section in list {
+        let (start, size) = (section.start as usize, section.size as usize);
+        let length = next_section(0, section.size);
+        let (bytes, later) = rest.split_at_mut(length);
+        bytes[..4].copy_from_slice(&header_bytes::<LOW_FIRST>(section.size));
+        bytes[4..8].copy_from_slice(&header_bytes::<LOW_FIRST>(section.address));
+        match data.get(start..start + 4) {
+            // The bytes behind the section's data become its pads.
+            Some(run) if size <= 4 => {
+                let word = u32::from_le_bytes(run.try_into().expect("four bytes"));
+                let kept = u32::MAX >> (32 - 8 * size);
+                bytes[8..12].copy_from_slice(&(word & kept).to_le_bytes());
+            }
+            // The last word has the pads.
+            _ => {
+                bytes[length - 4..].copy_from_slice(&[0; 4]);
+                copy_blocks(&mut bytes[8..][..size], &data[start..][..size]);
+            }
+        }
+        rest = later;
+    }
+    rest.copy_from_slice(&[0; 4]);
+}
+
+/// Copies data into bytes of its length, up to eight blocks of 16 bytes without a
+/// call.
+#[inline(always)]
+fn copy_blocks(bytes: &mut [u8], data: &[u8]) {
+    if !(16..=128).contains(&data.len()) {
+        bytes.copy_from_slice(data);
+        return;
+    }
+    let (to, rest) = bytes.as_chunks_mut::<16>();
+    let (blocks, left) = data.as_chunks();
+    for (to, block) in to.iter_mut().zip(blocks) {
+        *to = *block;
+    }
+    if !left.is_empty() {
+        rest.copy_from_slice(left);
     }
 }
 

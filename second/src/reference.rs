@@ -1,13 +1,14 @@
-//! Document 01, as requests 2, 7, 8 and 10 of document 02 mend it, read once
-//! more in plain Rust: the map, the boot table, judging, loading, the join, the
-//! configuration table, the strap value and the listers' text. Addresses are
-//! looked at one by one and bytes are copied one by one; nothing here is quick.
+//! Document 01, as requests 2, 7, 8 and 10 of document 02 mend it, and request 1
+//! read once more in plain Rust: the map, the boot table, judging, loading, the
+//! join, the writer, the configuration table, the strap value and the listers'
+//! text. Addresses are looked at one by one and bytes are copied one by one;
+//! nothing here is quick.
 
 use std::collections::HashSet;
 
 /// Most bytes in a map: 64 records of 12.
 pub const MAP_LIMIT: usize = 768;
-/// Most bytes in a boot table, and in a join.
+/// Most bytes in a boot table, also in one that is joined or written.
 pub const TABLE_LIMIT: usize = 16_777_216;
 /// Most registers in a list.
 pub const REGISTER_LIMIT: usize = 1024;
@@ -69,6 +70,25 @@ pub struct JoinAnswer {
     pub number: u64,
     pub place: u64,
     pub table: u64,
+    pub length: u64,
+    pub sections: u64,
+}
+
+/// One section of a list that the writer takes, laid out as in C: its address,
+/// and the start and the size of its data in the lent run.
+#[repr(C)]
+#[derive(Clone, Copy, Debug, PartialEq, Eq)]
+pub struct ListSection {
+    pub address: u32,
+    pub start: u32,
+    pub size: u32,
+}
+
+/// What the writer answers.
+#[derive(Clone, Copy, Debug, Default, PartialEq, Eq)]
+pub struct WriteAnswer {
+    pub number: u64,
+    pub place: u64,
     pub length: u64,
     pub sections: u64,
 }
@@ -528,6 +548,83 @@ pub fn join(first: &[u8], second: &[u8], order: ByteOrder, output: &mut [u8]) ->
     JoinAnswer {
         length: length as u64,
         sections: (one.sections.len() + two.sections.len()) as u64,
+        ..Default::default()
+    }
+}
+
+// The writer.
+
+/// The length of the table of a list, or the first fault of its first bad
+/// section, whose index is the place.
+fn written_length(list: &[ListSection], data: &[u8]) -> Result<u128, Refusal> {
+    // The entry word and the zero word.
+    let mut length = 8;
+    for (index, section) in list.iter().enumerate() {
+        let [address, start, size] = [section.address, section.start, section.size].map(u64::from);
+        // 21: size zero.
+        if size == 0 {
+            return refuse(21, index);
+        }
+        // 20: start plus size past the data.
+        if start + size > data.len() as u64 {
+            return refuse(20, index);
+        }
+        // 8: address plus size over 2^32.
+        if address + size > TOP {
+            return refuse(8, index);
+        }
+        length += u128::from(8 + size + pad_count(size));
+    }
+    Ok(length)
+}
+
+/// The writer: the first bad section, 10, 11. The result is the entry, the
+/// sections of the list in its order, each with its data and zero pads, and the
+/// zero word.
+pub fn write(
+    entry: u32,
+    list: &[ListSection],
+    data: &[u8],
+    order: ByteOrder,
+    output: &mut [u8],
+) -> WriteAnswer {
+    let length = match written_length(list, data) {
+        Err(refusal) => {
+            return WriteAnswer {
+                number: refusal.number,
+                place: refusal.place,
+                ..Default::default()
+            }
+        }
+        Ok(length) => length,
+    };
+    // 10: over the limit. 11: output shorter than the result.
+    for (number, most) in [(10, TABLE_LIMIT), (11, output.len())] {
+        if length > most as u128 {
+            return WriteAnswer {
+                number,
+                ..Default::default()
+            };
+        }
+    }
+    let mut result = Vec::new();
+    put_header_word(&mut result, entry.into(), order);
+    for section in list {
+        put_header_word(&mut result, section.size.into(), order);
+        put_header_word(&mut result, section.address.into(), order);
+        for i in 0..section.size {
+            result.push(data[section.start as usize + i as usize]);
+        }
+        result.extend(vec![0; pad_count(section.size.into()) as usize]);
+    }
+    put_header_word(&mut result, 0, order);
+    // Output bytes past the result are not touched.
+    for (i, byte) in result.iter().enumerate() {
+        output[i] = *byte;
+    }
+    WriteAnswer {
+        length: length as u64,
+        sections: list.len() as u64,
         ..Default::default()
     }
 }

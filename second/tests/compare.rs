@@ -1,13 +1,16 @@
 //! The library and the reference on generated cases: every field of every
 //! answer and every byte of every buffer. Each refusal of each call must be hit
-//! at least a hundred times: those of judging, loading and the join in each byte
-//! order, and the join's refusals of a table for the first and for the second. A
-//! table written in the other order must be refused as often, and the same is
-//! asked of each outcome of a load under a map with kind 3. 6 is withdrawn and
-//! must never be answered.
+//! at least a hundred times: those of judging, loading, the join and the writer
+//! in each byte order, and the join's refusals of a table for the first and for
+//! the second. A table written in the other order must be refused as often, and
+//! the same is asked of each outcome of a load under a map with kind 3 and of
+//! each kind of list that the writer is given. 6 is withdrawn and must never be
+//! answered.
 
-use second::cases::{self, ConfigCase, JoinCase, LoadCase, Numbers};
-use second::reference::{ByteOrder, JoinAnswer, Kind, CONFIG_LIMIT, TABLE_LIMIT};
+use second::cases::{self, ConfigCase, JoinCase, LoadCase, Numbers, WriteCase};
+use second::reference::{
+    ByteOrder, JoinAnswer, Kind, ListSection, WriteAnswer, CONFIG_LIMIT, TABLE_LIMIT, TOP,
+};
 use second::{calls, reference};
 use std::collections::HashMap;
 
@@ -21,6 +24,8 @@ const OF_JUDGING: &[usize] = &[1, 2, 4, 5, 7, 8, 9, 29];
 const OF_LOADS: &[usize] = &[1, 2, 3, 4, 5, 7, 8, 9, 29];
 const OF_JOINS: &[usize] = &[10, 11];
 const OF_JOINED: &[usize] = &[4, 5, 7, 8];
+/// The refusals of the writer.
+const OF_WRITES: &[usize] = &[8, 10, 11, 20, 21];
 /// The refusals of the calls that read no boot table.
 const OF_OTHERS: &[usize] = &[12, 13, 14, 15, 16, 17, 18, 19];
 /// A run with fewer cases is a quick look, of which so many are not asked for.
@@ -150,12 +155,145 @@ impl OnceHits {
     }
 }
 
+/// Lists that the writer was given.
+#[derive(Debug, Default)]
+struct ListHits {
+    /// Accepted, with a section that has none, one, two and three pads.
+    pads: [u64; 4],
+    /// Accepted, with no section.
+    empty: u64,
+    /// Accepted, with a section that shares data with the one before.
+    shared: u64,
+    /// Accepted, with a section that goes on where the one before ends, in
+    /// address and in data.
+    touching: u64,
+    /// Accepted, with a section one to three addresses past the one before.
+    near: u64,
+    /// Accepted, with a section below the one before.
+    falling: u64,
+    /// Accepted, with a section that ends at the top, and at the data's end.
+    at_top: u64,
+    at_data_end: u64,
+    /// Accepted, with an output longer than the table.
+    longer: u64,
+    /// Refused with 21, where the start is at the data's end, and past it.
+    zero_at_end: u64,
+    zero_past: u64,
+    /// Refused with 20, where the start is at the data's end, and where the
+    /// section runs past the top too.
+    past_at_end: u64,
+    past_both: u64,
+    /// Refused with 20, where start plus size is no longer past the data if
+    /// taken in 32 bits.
+    wraps: u64,
+    /// Refused at a section that is not the first.
+    later: u64,
+    /// Refused, with a later section that has another fault.
+    several: u64,
+    /// Refused for a section, where the others alone are over the limit.
+    long: u64,
+}
+
+impl ListHits {
+    fn add(&mut self, case: &WriteCase, answer: &WriteAnswer) {
+        let data_length = case.data.len() as u64;
+        let numbers = |section: &ListSection| {
+            let ListSection {
+                address,
+                start,
+                size,
+            } = *section;
+            [address, start, size].map(u64::from)
+        };
+        // The first fault of a section, or 0.
+        let fault = |section: &ListSection| match numbers(section) {
+            [_, _, 0] => 21,
+            [_, start, size] if start + size > data_length => 20,
+            [address, _, size] if address + size > TOP => 8,
+            _ => 0,
+        };
+        let any = |test: &dyn Fn([u64; 3]) -> bool| {
+            let mut list = case.list.iter();
+            u64::from(list.any(|section| test(numbers(section))))
+        };
+        // Of two sections that follow each other.
+        let pair = |test: &dyn Fn([u64; 3], [u64; 3]) -> bool| {
+            let mut pairs = case.list.windows(2);
+            u64::from(pairs.any(|pair| test(numbers(&pair[0]), numbers(&pair[1]))))
+        };
+        if answer.number == 0 {
+            for (count, times) in self.pads.iter_mut().enumerate() {
+                *times += any(&|[_, _, size]| (size + count as u64).is_multiple_of(4));
+            }
+            self.empty += u64::from(case.list.is_empty());
+            self.shared +=
+                pair(&|[_, one, size], [_, two, other]| one < two + other && two < one + size);
+            self.touching += pair(&|[address, start, size], [next, goes_on, _]| {
+                next == address + size && goes_on == start + size
+            });
+            self.near += pair(&|[address, _, size], [next, _, _]| {
+                (1..=3).any(|gap| next == address + size + gap)
+            });
+            self.falling += pair(&|[address, _, _], [next, _, _]| next < address);
+            self.at_top += any(&|[address, _, size]| address + size == TOP);
+            self.at_data_end += any(&|[_, start, size]| start + size == data_length);
+            self.longer += u64::from(case.output.len() as u64 > answer.length);
+        }
+        if !matches!(answer.number, 8 | 20 | 21) {
+            return;
+        }
+        let (before, rest) = case.list.split_at(answer.place as usize);
+        let [address, start, size] = numbers(&rest[0]);
+        let refused = |number: u64, also: bool| u64::from(answer.number == number && also);
+        self.zero_at_end += refused(21, start == data_length);
+        self.zero_past += refused(21, start > data_length);
+        self.past_at_end += refused(20, start == data_length);
+        self.past_both += refused(20, address + size > TOP);
+        self.wraps += refused(20, (start + size) % TOP <= data_length);
+        self.later += u64::from(!before.is_empty());
+        let mut others = rest[1..].iter().map(fault);
+        let another = others.any(|other| other != 0 && other != answer.number);
+        self.several += u64::from(another);
+        let good = case.list.iter().filter(|section| fault(section) == 0);
+        let length: u64 = good.map(|section| u64::from(section.size)).sum();
+        self.long += u64::from(length > TABLE_LIMIT as u64);
+    }
+
+    fn close(&self, name: &str, full: bool) {
+        println!("{name}, lists: {self:?}");
+        let mut all = vec![
+            self.empty,
+            self.shared,
+            self.touching,
+            self.near,
+            self.falling,
+            self.at_top,
+            self.at_data_end,
+            self.longer,
+            self.zero_at_end,
+            self.zero_past,
+            self.past_at_end,
+            self.past_both,
+            self.wraps,
+            self.later,
+            self.several,
+            self.long,
+        ];
+        all.extend(self.pads);
+        for times in all {
+            assert!(times >= FLOOR || !full, "{name}: too few lists of a kind");
+        }
+    }
+}
+
 /// The counts of the calls over boot tables of one order.
 #[derive(Default)]
 struct TableHits {
     judge: Hits,
     load: Hits,
     once: OnceHits,
+    write: Hits,
+    lists: ListHits,
     /// By the table that the answer names: none, the first, the second.
     join: [Hits; 3],
     /// Refused tables that were written in the other order: read in it they are
@@ -175,6 +313,8 @@ impl TableHits {
             .close(&format!("{name}, judge"), OF_JUDGING, full);
         self.load.close(&format!("{name}, load"), OF_LOADS, full);
         self.once.close(name, full);
+        self.write.close(&format!("{name}, write"), OF_WRITES, full);
+        self.lists.close(name, full);
         none.close(&format!("{name}, join"), OF_JOINS, full);
         for (table, hits) in [(1, first), (2, second)] {
             let name = format!("{name}, join, table {table}");
@@ -264,6 +404,50 @@ fn compare_join(case: &JoinCase, hits: &mut [TableHits; 2]) {
     assert_eq!(&lent_first, first, "the first table is only read");
     assert_eq!(&lent_second, second, "the second table is only read");
     hits[order as usize].add_join(&answer);
+}
+
+fn compare_write(case: &WriteCase, hits: &mut [TableHits; 2]) {
+    let WriteCase {
+        entry,
+        list,
+        data,
+        order,
+        output,
+    } = case;
+    let (entry, order) = (*entry, *order);
+    let lent_list = list.clone();
+    let lent_data = data.clone();
+    let before = guarded(output, 0x9C);
+    let mut lent = before.clone();
+    let mut other = before.clone();
+    let range = GUARD..GUARD + output.len();
+    let answer = calls::write(
+        entry,
+        &lent_list,
+        &lent_data,
+        order,
+        &mut lent[range.clone()],
+    );
+    let expected = reference::write(entry, list, data, order, &mut other[range]);
+    assert_eq!(answer, expected, "writing {case:?}");
+    assert_eq!(lent, other, "output after writing {case:?}");
+    // After a refusal the length is 0.
+    let result = GUARD..GUARD + answer.length as usize;
+    assert_eq!(
+        lent[..result.start],
+        before[..result.start],
+        "before the output of {case:?}"
+    );
+    assert_eq!(
+        lent[result.end..],
+        before[result.end..],
+        "past the result of {case:?}"
+    );
+    assert_eq!(&lent_list, list, "the list is only read");
+    assert_eq!(&lent_data, data, "the data is only read");
+    let hits = &mut hits[order as usize];
+    hits.write.add(answer.number);
+    hits.lists.add(case, &answer);
 }
 
 fn compare_config(case: &ConfigCase, hits: &mut Hits) {
@@ -413,12 +597,15 @@ fn generated_cases() {
     let mut tables = <[TableHits; 2]>::default();
     let mut others = Hits::default();
 
-    // Of the cases half are loads, a quarter joins, the rest is shared.
+    // Of the cases half are loads, a sixth joins and a sixth lists to write; the
+    // rest is shared.
+    let [loads, joins, writes, configs] = [count / 2, count / 6, count / 6, count / 10];
     let shares = [
-        count / 2,
-        count / 4,
-        count / 6,
-        count - count / 2 - count / 4 - count / 6,
+        loads,
+        joins,
+        writes,
+        configs,
+        count - loads - joins - writes - configs,
     ];
     let mut numbers = Numbers::new(seed, 1);
     for _ in 0..shares[0] {
@@ -428,13 +615,17 @@ fn generated_cases() {
     for _ in 0..shares[1] {
         compare_join(&cases::join_case(&mut numbers), &mut tables);
     }
-    let mut numbers = Numbers::new(seed, 3);
+    let mut numbers = Numbers::new(seed, 6);
     for _ in 0..shares[2] {
+        compare_write(&cases::write_case(&mut numbers), &mut tables);
+    }
+    let mut numbers = Numbers::new(seed, 3);
+    for _ in 0..shares[3] {
         compare_config(&cases::config_case(&mut numbers), &mut others);
     }
     let configures = others.0[0];
     let mut numbers = Numbers::new(seed, 4);
-    for _ in 0..shares[3] {
+    for _ in 0..shares[4] {
         let value = cases::strap_value(&mut numbers);
         // At times the other value differs in one bit only.
         let other = match numbers.below(2) {
@@ -453,8 +644,10 @@ fn generated_cases() {
 
     let loads = tables.each_ref().map(|hits| hits.load.0[0]);
     let joins = tables.each_ref().map(|hits| hits.join[0].0[0]);
+    let writes = tables.each_ref().map(|hits| hits.write.0[0]);
     println!("seed {seed}, {count} cases; accepted, boot tables in each order:");
-    println!("load {loads:?}, join {joins:?}, configure {configures}, strap {straps}");
+    println!("load {loads:?}, join {joins:?}, write {writes:?}");
+    println!("configure {configures}, strap {straps}");
     println!("how often each number was answered, from 0 on:");
     for order in ByteOrder::BOTH {
         tables[order as usize].close(&format!("{order:?}"), full);
@@ -467,8 +660,10 @@ fn generated_cases() {
             (loads[1], shares[0] / 2),
             (joins[0], shares[1] / 2),
             (joins[1], shares[1] / 2),
-            (configures, shares[2]),
-            (straps, shares[3]),
+            (writes[0], shares[2] / 2),
+            (writes[1], shares[2] / 2),
+            (configures, shares[3]),
+            (straps, shares[4]),
         ] {
             assert!(times >= share / 10, "{times} of {share} were accepted");
         }

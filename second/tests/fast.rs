@@ -1,8 +1,8 @@
 //! The benchmark's peer and the reference on generated cases: every field of
 //! every answer and every byte of every buffer, so that the peer is right.
 
-use second::cases::{self, LoadCase, Numbers};
-use second::reference::{ByteOrder, STRAP_LIMIT, TABLE_LIMIT, TOP};
+use second::cases::{self, LoadCase, Numbers, WriteCase};
+use second::reference::{ByteOrder, ListSection, STRAP_LIMIT, TABLE_LIMIT, TOP};
 use second::{calls, fast, reference};
 
 /// The generated cases of each call.
@@ -248,6 +248,75 @@ fn joining() {
     }
 }
 
+/// Compares the writer, and counts its number in the case's order.
+fn compare_write(case: &WriteCase, hits: &mut [Hits; 2]) {
+    let WriteCase {
+        entry,
+        list,
+        data,
+        order,
+        output,
+    } = case;
+    let mut written = output.clone();
+    let mut expected = output.clone();
+    let answer = fast::write(*entry, list, data, *order, &mut written);
+    assert_eq!(
+        answer,
+        reference::write(*entry, list, data, *order, &mut expected),
+        "writing {case:?}"
+    );
+    assert_eq!(written, expected, "output after writing {case:?}");
+    hits[*order as usize][answer.number as usize] += 1;
+}
+
+#[test]
+fn writing() {
+    let mut numbers = Numbers::new(cases::seed(), 78);
+    let mut hits = [[0; 30]; 2];
+    for _ in 0..CASES {
+        compare_write(&cases::write_case(&mut numbers), &mut hits);
+    }
+    for hits in &hits {
+        all_hit(hits, &[0, 8, 10, 11, 20, 21]);
+    }
+}
+
+/// Sections of every size from 1 to 200, each with none to 20 data bytes behind
+/// it, alone and before another section.
+#[test]
+fn writing_every_small_size() {
+    let mut numbers = Numbers::new(cases::seed(), 79);
+    let mut hits = [[0; 30]; 2];
+    for size in 1..=200 {
+        let data = numbers.bytes(1 + size + 20);
+        for behind in 0..=20 {
+            let section = ListSection {
+                address: numbers.word() >> 1,
+                start: numbers.below(2) as u32,
+                size: size as u32,
+            };
+            let data = data[..section.start as usize + size + behind].to_vec();
+            for count in 1..=2 {
+                for order in ByteOrder::BOTH {
+                    let list = vec![section; count];
+                    let length = 8 + count * (8 + size.next_multiple_of(4));
+                    let case = WriteCase {
+                        entry: numbers.word(),
+                        list,
+                        data: data.clone(),
+                        order,
+                        output: vec![0xFF; length + 5],
+                    };
+                    compare_write(&case, &mut hits);
+                }
+            }
+        }
+    }
+    for hits in &hits {
+        assert_eq!(hits[0], 200 * 21 * 2, "{hits:?}");
+    }
+}
+
 #[test]
 fn configuring() {
     let mut numbers = Numbers::new(cases::seed(), 73);
@@ -346,6 +415,43 @@ fn at_the_limit() {
             );
             assert!(output == expected, "output, {less} less");
             assert_eq!(answer.number, if less < 24 { 10 } else { 0 });
+        }
+    }
+}
+
+/// Written tables at the limit and over it, of one section, of many, and of so
+/// many that the length is over 2^32.
+#[test]
+fn writing_at_the_limit() {
+    let data = vec![7; TABLE_LIMIT];
+    let most = (TABLE_LIMIT - 8) / 12;
+    for order in ByteOrder::BOTH {
+        for (count, size, number) in [
+            (1, TABLE_LIMIT - 16, 0),
+            (1, TABLE_LIMIT - 19, 0),
+            (1, TABLE_LIMIT - 15, 10),
+            (2, TABLE_LIMIT / 2 - 12, 0),
+            (2, TABLE_LIMIT / 2 - 11, 10),
+            (most, 1, 0),
+            (most + 1, 1, 10),
+            (65_536, 65_528, 10),
+        ] {
+            let section = ListSection {
+                address: 0x0080_0000,
+                start: 0,
+                size: size as u32,
+            };
+            let list = vec![section; count];
+            let mut output = vec![3; TABLE_LIMIT + 4];
+            let mut expected = output.clone();
+            let answer = fast::write(5, &list, &data, order, &mut output);
+            assert_eq!(
+                answer,
+                reference::write(5, &list, &data, order, &mut expected),
+                "{count} sections of {size} bytes"
+            );
+            assert!(output == expected, "{count} sections of {size} bytes");
+            assert_eq!(answer.number, number, "{count} sections of {size} bytes");
         }
     }
 }

@@ -1,18 +1,18 @@
 //! Cases by name: the bench cards, what students write first, and bad inputs
 //! one by one. Expected values are written by hand from document 01 as requests
-//! 2, 7, 8 and 10 of document 02 mend it, and both the library and the reference
-//! must give them. Cases over boot tables are run in both byte orders: cards 1
-//! to 3 high first, with `p_and_q_low_first` and `p_and_q_joined_low_first` as
-//! their counterparts low first.
+//! 2, 7, 8 and 10 of document 02 mend it and from request 1, and both the library
+//! and the reference must give them. Cases over boot tables are run in both byte
+//! orders: cards 1 to 3 high first, with `p_and_q_low_first` and
+//! `p_and_q_joined_low_first` as their counterparts low first.
 
 use second::cases::{
-    self, config, entries, header_word, map, p, padded_section, padded_table, record, table,
+    self, config, entries, header_word, list, map, p, padded_section, padded_table, record, table,
     turn_word, Numbers, P, P_LOW,
 };
 use second::reference::ByteOrder::{self, HighFirst, LowFirst};
 use second::reference::{
-    ConfigAnswer, JoinAnswer, LabelAnswer, LoadAnswer, MapAnswer, SameAnswer, StrapAnswer,
-    TABLE_LIMIT,
+    ConfigAnswer, JoinAnswer, LabelAnswer, ListSection, LoadAnswer, MapAnswer, SameAnswer,
+    StrapAnswer, WriteAnswer, TABLE_LIMIT,
 };
 use second::{calls, reference};
 
@@ -61,6 +61,7 @@ fn written<const N: usize>(mut high: [u8; N], words: &[usize], order: ByteOrder)
 type Judge = fn(&[u8], &[u8], ByteOrder) -> LoadAnswer;
 type Load = fn(&[u8], &[u8], ByteOrder, &mut [u8]) -> LoadAnswer;
 type Join = fn(&[u8], &[u8], ByteOrder, &mut [u8]) -> JoinAnswer;
+type Write = fn(u32, &[ListSection], &[u8], ByteOrder, &mut [u8]) -> WriteAnswer;
 type Configure = fn(&[u8], &[u32], &mut [u32]) -> ConfigAnswer;
 
 const LOADS: [(&str, Judge, Load); 2] = [
@@ -68,6 +69,7 @@ const LOADS: [(&str, Judge, Load); 2] = [
     ("reference", reference::judge, reference::load),
 ];
 const JOINS: [(&str, Join); 2] = [("library", calls::join), ("reference", reference::join)];
+const WRITES: [(&str, Write); 2] = [("library", calls::write), ("reference", reference::write)];
 const CONFIGURES: [(&str, Configure); 2] = [
     ("library", calls::configure),
     ("reference", reference::configure),
@@ -202,6 +204,64 @@ fn form_refused(table: &[u8], order: ByteOrder, number: u64, place: u64) {
     let answer = |side| join_refused(number, place, side);
     join_refuses(table, q(order), order, &output, answer(1));
     join_refuses(q(order), table, order, &output, answer(2));
+}
+
+fn write_accepted(length: u64, sections: u64) -> WriteAnswer {
+    WriteAnswer {
+        number: 0,
+        place: 0,
+        length,
+        sections,
+    }
+}
+
+fn write_refused(number: u64, place: u64) -> WriteAnswer {
+    WriteAnswer {
+        number,
+        place,
+        length: 0,
+        sections: 0,
+    }
+}
+
+#[track_caller]
+fn write_gives(
+    entry: u32,
+    (list, data): (&[ListSection], &[u8]),
+    order: ByteOrder,
+    before: &[u8],
+    expected: WriteAnswer,
+    after: &[u8],
+) {
+    for (name, write) in WRITES {
+        let mut output = before.to_vec();
+        let answer = write(entry, list, data, order, &mut output);
+        assert_eq!(answer, expected, "{name}, write, {order:?}");
+        assert!(output == after, "{name}, output, {order:?}");
+    }
+}
+
+/// A list is written over 0xEE, into an output of the table's length.
+#[track_caller]
+fn writes(
+    entry: u32,
+    (list, data): (&[ListSection], &[u8]),
+    order: ByteOrder,
+    sections: u64,
+    after: &[u8],
+) {
+    let before = vec![0xEE; after.len()];
+    let answer = write_accepted(after.len() as u64, sections);
+    write_gives(entry, (list, data), order, &before, answer, after);
+}
+
+/// A refusal of a list, in both byte orders: output stays as it was.
+#[track_caller]
+fn write_refuses((list, data): (&[ListSection], &[u8]), output: &[u8], number: u64, place: u64) {
+    for order in ByteOrder::BOTH {
+        let expected = write_refused(number, place);
+        write_gives(7, (list, data), order, output, expected, output);
+    }
 }
 
 fn configured(entries: u64, bits: u64) -> ConfigAnswer {
@@ -1504,6 +1564,524 @@ fn joins_at_the_limit_and_over() {
         join_refuses(&large, &one, order, &[], join_refused(4, 0, 1));
         join_refuses(&one, &large, order, &[], join_refused(4, 0, 2));
         join_refuses(&p(order)[..3], &large, order, &[], join_refused(5, 0, 1));
+    }
+}
+
+// The writer.
+
+/// Four data bytes: those of P and that of Q.
+const DATA: [u8; 4] = [0xA1, 0xA2, 0xA3, 0xB7];
+
+#[test]
+fn p_and_q_written_from_lists() {
+    let [of_p, of_q] = [(0x0080_0002, 0, 3), (0x0080_0004, 3, 1)];
+    for order in ByteOrder::BOTH {
+        let one = list(&[of_p]);
+        writes(0x0080_0000, (&one, &DATA), order, 1, p(order));
+        let one = list(&[of_q]);
+        writes(0x0080_0004, (&one, &DATA), order, 1, q(order));
+    }
+    // Both sections in one list, with Q's entry: the join of the two.
+    let both = list(&[of_p, of_q]);
+    let high = [
+        0, 0x80, 0, 4, 0, 0, 0, 3, 0, 0x80, 0, 2, 0xA1, 0xA2, 0xA3, 0, 0, 0, 0, 1, 0, 0x80, 0, 4,
+        0xB7, 0, 0, 0, 0, 0, 0, 0,
+    ];
+    let low = [
+        4, 0, 0x80, 0, 3, 0, 0, 0, 2, 0, 0x80, 0, 0xA1, 0xA2, 0xA3, 0, 1, 0, 0, 0, 4, 0, 0x80, 0,
+        0xB7, 0, 0, 0, 0, 0, 0, 0,
+    ];
+    writes(0x0080_0004, (&both, &DATA), HighFirst, 2, &high);
+    writes(0x0080_0004, (&both, &DATA), LowFirst, 2, &low);
+}
+
+#[test]
+fn an_empty_list() {
+    for data in [&[][..], &DATA] {
+        let high = [0x12, 0x34, 0x56, 0x78, 0, 0, 0, 0];
+        writes(0x1234_5678, (&[], data), HighFirst, 0, &high);
+        let low = [0x78, 0x56, 0x34, 0x12, 0, 0, 0, 0];
+        writes(0x1234_5678, (&[], data), LowFirst, 0, &low);
+        write_refuses((&[], data), &[0xEE; 7], 11, 0);
+        write_refuses((&[], data), &[], 11, 0);
+    }
+}
+
+#[test]
+fn any_entry_is_written() {
+    for (entry, high) in [
+        (0, [0, 0, 0, 0]),
+        (1, [0, 0, 0, 1]),
+        (0x8000_0000, [0x80, 0, 0, 0]),
+        (0xFFFF_FFFF, [0xFF, 0xFF, 0xFF, 0xFF]),
+        (0x0102_0304, [1, 2, 3, 4]),
+    ] {
+        for order in ByteOrder::BOTH {
+            let first = written(high, &[0], order);
+            let after = [&first[..], &p(order)[4..]].concat();
+            let one = list(&[(0x0080_0002, 0, 3)]);
+            writes(entry, (&one, &DATA), order, 1, &after);
+        }
+    }
+}
+
+#[test]
+fn written_header_words_of_different_bytes() {
+    // The size is 0x0102, which is 258: two pads.
+    let mut data: Vec<u8> = (0..=255).collect();
+    data.extend([0xD1, 0xD2]);
+    let one = list(&[(0x1122_3344, 0, 258)]);
+    let high = [
+        0x81, 0x82, 0x83, 0x84, 0, 0, 1, 2, 0x11, 0x22, 0x33, 0x44, 0, 1, 2, 3,
+    ];
+    let low = [
+        0x84, 0x83, 0x82, 0x81, 2, 1, 0, 0, 0x44, 0x33, 0x22, 0x11, 0, 1, 2, 3,
+    ];
+    for (order, start) in [(HighFirst, high), (LowFirst, low)] {
+        let after = [&start[..], &data[4..], &[0; 2], &[0; 4]].concat();
+        writes(0x8182_8384, (&one, &data), order, 1, &after);
+    }
+}
+
+#[test]
+fn written_sections_that_touch_are_not_merged() {
+    // The second goes on where the first ends, in address and in data.
+    let data = [0xD1, 0xD2, 0xD3, 0xD4, 0xD5, 0xD6, 0xD7, 0xD8];
+    for order in ByteOrder::BOTH {
+        let touching = list(&[(0x0080_0002, 0, 3), (0x0080_0005, 3, 2)]);
+        let after = written(
+            [
+                0, 0, 0, 9, 0, 0, 0, 3, 0, 0x80, 0, 2, 0xD1, 0xD2, 0xD3, 0, 0, 0, 0, 2, 0, 0x80, 0,
+                5, 0xD4, 0xD5, 0, 0, 0, 0, 0, 0,
+            ],
+            &[0, 4, 8, 16, 20],
+            order,
+        );
+        writes(9, (&touching, &data), order, 2, &after);
+        // Without pads between them.
+        let touching = list(&[(0x0080_0000, 0, 4), (0x0080_0004, 4, 4)]);
+        let after = written(
+            [
+                0, 0, 0, 9, 0, 0, 0, 4, 0, 0x80, 0, 0, 0xD1, 0xD2, 0xD3, 0xD4, 0, 0, 0, 4, 0, 0x80,
+                0, 4, 0xD5, 0xD6, 0xD7, 0xD8, 0, 0, 0, 0,
+            ],
+            &[0, 4, 8, 16, 20],
+            order,
+        );
+        writes(9, (&touching, &data), order, 2, &after);
+    }
+}
+
+#[test]
+fn written_sections_near_each_other_are_not_filled_between() {
+    let data = [0xD1, 0xD2, 0xD3, 0xD4, 0xD5, 0xD6];
+    for order in ByteOrder::BOTH {
+        // Three addresses apart, and so are their data.
+        let near = list(&[(0x0080_0002, 0, 1), (0x0080_0006, 4, 2)]);
+        let after = written(
+            [
+                0, 0, 0, 9, 0, 0, 0, 1, 0, 0x80, 0, 2, 0xD1, 0, 0, 0, 0, 0, 0, 2, 0, 0x80, 0, 6,
+                0xD5, 0xD6, 0, 0, 0, 0, 0, 0,
+            ],
+            &[0, 4, 8, 16, 20],
+            order,
+        );
+        writes(9, (&near, &data), order, 2, &after);
+        let places = with(&[(2, 0xD1), (6, 0xD5), (7, 0xD6)]);
+        let answer = accepted(9, 0, 2, 3);
+        load_gives(&M, &after, order, &MEMORY, answer, &places);
+    }
+}
+
+#[test]
+fn sections_are_written_in_the_lists_order() {
+    let data = [0xD0, 0xD1, 0xD2, 0xD3, 0xD4, 0xD5];
+    for order in ByteOrder::BOTH {
+        // Addresses and starts fall and rise, and one section is there twice.
+        let mixed = list(&[(0x30, 5, 1), (0x10, 0, 2), (0x30, 5, 1), (0x20, 1, 4)]);
+        let after = written(
+            [
+                0, 0, 0, 9, 0, 0, 0, 1, 0, 0, 0, 0x30, 0xD5, 0, 0, 0, 0, 0, 0, 2, 0, 0, 0, 0x10,
+                0xD0, 0xD1, 0, 0, 0, 0, 0, 1, 0, 0, 0, 0x30, 0xD5, 0, 0, 0, 0, 0, 0, 4, 0, 0, 0,
+                0x20, 0xD1, 0xD2, 0xD3, 0xD4, 0, 0, 0, 0,
+            ],
+            &[0, 4, 8, 16, 20, 28, 32, 40, 44],
+            order,
+        );
+        writes(9, (&mixed, &data), order, 4, &after);
+    }
+}
+
+#[test]
+fn listed_sections_may_share_data_and_addresses() {
+    let data = [0xD0, 0xD1, 0xD2, 0xD3];
+    for order in ByteOrder::BOTH {
+        let sharing = list(&[
+            (0x0080_0004, 0, 3),
+            (0x0080_0005, 1, 3),
+            (0x0080_0004, 0, 4),
+        ]);
+        let after = written(
+            [
+                0, 0, 0, 9, 0, 0, 0, 3, 0, 0x80, 0, 4, 0xD0, 0xD1, 0xD2, 0, 0, 0, 0, 3, 0, 0x80, 0,
+                5, 0xD1, 0xD2, 0xD3, 0, 0, 0, 0, 4, 0, 0x80, 0, 4, 0xD0, 0xD1, 0xD2, 0xD3, 0, 0, 0,
+                0,
+            ],
+            &[0, 4, 8, 16, 20, 28, 32],
+            order,
+        );
+        writes(9, (&sharing, &data), order, 3, &after);
+    }
+}
+
+#[test]
+fn written_pads_are_zero() {
+    for order in ByteOrder::BOTH {
+        // The output held 0xFF, and more data follows in the run, or none.
+        for behind in [0, 1, 2, 3, 4, 40] {
+            for size in 1..=9 {
+                let data = vec![0xE1; 5 + size + behind];
+                let one = list(&[(0x0080_0000, 5, size as u32)]);
+                let mut after = header_word(9, order).to_vec();
+                after.extend(header_word(size as u32, order));
+                after.extend(header_word(0x0080_0000, order));
+                after.extend(vec![0xE1; size]);
+                after.extend(vec![0; [0, 3, 2, 1][size % 4]]);
+                after.extend([0; 4]);
+                let before = vec![0xFF; after.len()];
+                let answer = write_accepted(after.len() as u64, 1);
+                write_gives(9, (&one, &data), order, &before, answer, &after);
+            }
+        }
+        // One, two and three pads, and none, in one table.
+        let all = list(&[(0x30, 0, 3), (0x20, 0, 2), (0x10, 0, 1), (0x40, 0, 4)]);
+        let data = [0xE1, 0xE2, 0xE3, 0xE4, 0xE5, 0xE6];
+        let after = written(
+            [
+                0, 0, 0, 9, 0, 0, 0, 3, 0, 0, 0, 0x30, 0xE1, 0xE2, 0xE3, 0, 0, 0, 0, 2, 0, 0, 0,
+                0x20, 0xE1, 0xE2, 0, 0, 0, 0, 0, 1, 0, 0, 0, 0x10, 0xE1, 0, 0, 0, 0, 0, 0, 4, 0, 0,
+                0, 0x40, 0xE1, 0xE2, 0xE3, 0xE4, 0, 0, 0, 0,
+            ],
+            &[0, 4, 8, 16, 20, 28, 32, 40, 44],
+            order,
+        );
+        let answer = write_accepted(56, 4);
+        write_gives(9, (&all, &data), order, &[0xFF; 56], answer, &after);
+    }
+}
+
+#[test]
+fn a_written_size_is_not_rounded_up() {
+    for order in ByteOrder::BOTH {
+        for (name, write) in WRITES {
+            // Sections that end at the map's last address: a size rounded up would
+            // not be open.
+            for size in 1..=4 {
+                let one = list(&[(0x0080_0010 - size, 0, size)]);
+                let mut output = [0xEE; 20];
+                let answer = write(0, &one, &DATA, order, &mut output);
+                assert_eq!(answer, write_accepted(20, 1), "{name}");
+                assert_eq!(output[4..8], header_word(size, order), "{name}");
+                let mut after = MEMORY;
+                after[16 - size as usize..].copy_from_slice(&DATA[..size as usize]);
+                let answer = accepted(0, 0, 1, u64::from(size));
+                load_gives(&M, &output, order, &MEMORY, answer, &after);
+            }
+        }
+    }
+}
+
+#[test]
+fn data_is_written_as_it_stands_in_both_orders() {
+    let data = [1, 2, 3, 4, 5, 6, 7, 8, 9];
+    let one = list(&[(0, 1, 8)]);
+    for order in ByteOrder::BOTH {
+        let after = written(
+            [
+                0, 0, 0, 9, 0, 0, 0, 8, 0, 0, 0, 0, 2, 3, 4, 5, 6, 7, 8, 9, 0, 0, 0, 0,
+            ],
+            &[0, 4, 8],
+            order,
+        );
+        writes(9, (&one, &data), order, 1, &after);
+    }
+}
+
+#[test]
+fn outputs_of_the_writer_exact_short_empty_and_longer() {
+    let both = list(&[(0x0080_0002, 0, 3), (0x0080_0004, 3, 1)]);
+    for order in ByteOrder::BOTH {
+        let table = [&q(order)[..4], &p(order)[4..16], &q(order)[4..20]].concat();
+        writes(0x0080_0004, (&both, &DATA), order, 2, &table);
+        // What stands past the table is kept, whatever it is.
+        for more in [1, 2, 3, 4, 5, 100] {
+            let past: Vec<u8> = (0x31..).take(more).collect();
+            let before = [&[0xEE; 32][..], &past].concat();
+            let after = [&table[..], &past].concat();
+            let answer = write_accepted(32, 2);
+            write_gives(0x0080_0004, (&both, &DATA), order, &before, answer, &after);
+        }
+    }
+    for length in 0..32 {
+        write_refuses((&both, &DATA), &vec![0xEE; length], 11, 0);
+    }
+}
+
+#[test]
+fn a_listed_size_of_zero() {
+    let good = (0x0080_0002, 0, 3);
+    // At any start: in the data, at its end, and past it, where 20 holds too.
+    for start in [0, 3, 4, 5, 0xFFFF_FFFF] {
+        for address in [0, 0x0080_0002, 0xFFFF_FFFF] {
+            let zero = (address, start, 0);
+            let output = [0xEE; 64];
+            write_refuses((&list(&[zero]), &DATA), &output, 21, 0);
+            write_refuses((&list(&[good, zero]), &DATA), &output, 21, 1);
+            write_refuses((&list(&[good, good, zero, good]), &DATA), &output, 21, 2);
+            write_refuses((&list(&[zero]), &[]), &output, 21, 0);
+        }
+    }
+}
+
+#[test]
+fn a_listed_start_plus_size_past_the_data() {
+    let good = (0x0080_0002, 0, 3);
+    let output = [0xEE; 64];
+    // Up to the data's end.
+    for (start, size) in [(0, 4), (1, 3), (2, 2), (3, 1), (0, 1)] {
+        for order in ByteOrder::BOTH {
+            let mut after = header_word(9, order).to_vec();
+            after.extend(header_word(size, order));
+            after.extend([0; 4]);
+            after.extend(&DATA[start as usize..][..size as usize]);
+            after.resize(20, 0);
+            writes(9, (&list(&[(0, start, size)]), &DATA), order, 1, &after);
+        }
+    }
+    // One past it, or more.
+    for (start, size) in [(0, 5), (1, 4), (2, 3), (3, 2), (4, 1), (5, 1), (0, 400)] {
+        let past = (0, start, size);
+        write_refuses((&list(&[past]), &DATA), &output, 20, 0);
+        write_refuses((&list(&[good, past, good]), &DATA), &output, 20, 1);
+        // No byte of data.
+        write_refuses((&list(&[past]), &[]), &output, 20, 0);
+    }
+}
+
+#[test]
+fn a_listed_start_plus_size_is_taken_in_64_bits() {
+    let good = (0x0080_0002, 0, 3);
+    let output = [0xEE; 64];
+    // In 32 bits these sums would be 0 to 4, and within the data.
+    for (start, size) in [
+        (0xFFFF_FFFF, 1),
+        (0xFFFF_FFFF, 2),
+        (0xFFFF_FFFF, 5),
+        (0xFFFF_FFFC, 4),
+        (0xFFFF_FFFE, 6),
+        (1, 0xFFFF_FFFF),
+        (2, 0xFFFF_FFFF),
+        (4, 0xFFFF_FFFC),
+        (0x8000_0000, 0x8000_0000),
+        (0x8000_0002, 0x8000_0001),
+    ] {
+        let past = (0, start, size);
+        write_refuses((&list(&[past]), &DATA), &output, 20, 0);
+        write_refuses((&list(&[good, good, past]), &DATA), &output, 20, 2);
+    }
+}
+
+#[test]
+fn a_listed_address_plus_size_at_the_top_and_over() {
+    let good = (0x0080_0002, 0, 3);
+    for order in ByteOrder::BOTH {
+        // 2^32 exactly.
+        let last = list(&[(0xFFFF_FFFF, 0, 1)]);
+        let after = written(
+            [
+                0, 0, 0, 9, 0, 0, 0, 1, 0xFF, 0xFF, 0xFF, 0xFF, 0xA1, 0, 0, 0, 0, 0, 0, 0,
+            ],
+            &[0, 4, 8],
+            order,
+        );
+        writes(9, (&last, &DATA), order, 1, &after);
+        let four = list(&[(0xFFFF_FFFC, 0, 4)]);
+        let after = written(
+            [
+                0, 0, 0, 9, 0, 0, 0, 4, 0xFF, 0xFF, 0xFF, 0xFC, 0xA1, 0xA2, 0xA3, 0xB7, 0, 0, 0, 0,
+            ],
+            &[0, 4, 8],
+            order,
+        );
+        writes(9, (&four, &DATA), order, 1, &after);
+    }
+    // One over, and more.
+    for (address, size) in [
+        (0xFFFF_FFFF, 2),
+        (0xFFFF_FFFE, 3),
+        (0xFFFF_FFFD, 4),
+        (0xFFFF_FFFF, 4),
+    ] {
+        let over = (address, 0, size);
+        let output = [0xEE; 64];
+        write_refuses((&list(&[over]), &DATA), &output, 8, 0);
+        write_refuses((&list(&[good, over]), &DATA), &output, 8, 1);
+        write_refuses((&list(&[good, over, good]), &DATA), &output, 8, 1);
+    }
+}
+
+#[test]
+fn the_faults_of_one_listed_section_in_order() {
+    let output = [0xEE; 64];
+    let refuses = |section, number| write_refuses((&list(&[section]), &DATA), &output, number, 0);
+    // All that can be wrong, and then one after the other is mended. Size zero
+    // cannot run past the top.
+    refuses((0xFFFF_FFFF, 5, 0), 21);
+    refuses((0xFFFF_FFFF, 5, 2), 20);
+    refuses((0xFFFF_FFFF, 2, 2), 8);
+    for order in ByteOrder::BOTH {
+        let after = written(
+            [
+                0, 0, 0, 9, 0, 0, 0, 2, 0xFF, 0xFF, 0xFF, 0xFE, 0xA3, 0xB7, 0, 0, 0, 0, 0, 0,
+            ],
+            &[0, 4, 8],
+            order,
+        );
+        let good = list(&[(0xFFFF_FFFE, 2, 2)]);
+        writes(9, (&good, &DATA), order, 1, &after);
+    }
+    // 21 beside 20, 20 beside 8.
+    refuses((0, 5, 0), 21);
+    refuses((0, 0xFFFF_FFFF, 0), 21);
+    refuses((0xFFFF_FFFF, 3, 2), 20);
+    refuses((0xFFFF_FFFF, 0xFFFF_FFFF, 0xFFFF_FFFF), 20);
+    refuses((1, 0, 0xFFFF_FFFF), 20);
+    refuses((2, 0, 0xFFFF_FFFF), 20);
+}
+
+#[test]
+fn the_first_bad_section_of_several() {
+    let good = (0x0080_0002, 0, 3);
+    let bad = [
+        ((0, 0, 0), 21),
+        ((0, 1, 4), 20),
+        ((0xFFFF_FFFF, 0, 2), 8),
+        ((0xFFFF_FFFF, 3, 2), 20),
+        ((0xFFFF_FFFF, 9, 0), 21),
+    ];
+    let output = [0xEE; 128];
+    for (one, number) in bad {
+        for (two, _) in bad {
+            write_refuses((&list(&[one, two]), &DATA), &output, number, 0);
+            write_refuses((&list(&[good, one, two]), &DATA), &output, number, 1);
+            write_refuses(
+                (&list(&[good, good, one, good, two]), &DATA),
+                &output,
+                number,
+                2,
+            );
+        }
+        // 11 would hold as well.
+        write_refuses((&list(&[good, one]), &DATA), &[], number, 1);
+        // An index of more than 16 bits.
+        let mut long = list(&vec![good; 70_000]);
+        long.extend(list(&[one]));
+        write_refuses((&long, &DATA), &output, number, 70_000);
+    }
+}
+
+#[test]
+fn written_tables_at_the_limit_and_over() {
+    // 16 bytes of words and the data fill the limit; with up to three bytes less
+    // there are pads. The data does not repeat at a power of two.
+    let data: Vec<u8> = (0..TABLE_LIMIT).map(|i| (i % 251) as u8).collect();
+    for order in ByteOrder::BOTH {
+        for less in 0..4 {
+            let size = TABLE_LIMIT - 16 - less;
+            let one = list(&[(0x2000_0000, 0, size as u32)]);
+            let after = table(9, &[(0x2000_0000, &data[..size])], order);
+            assert_eq!(after.len(), TABLE_LIMIT);
+            writes(9, (&one, &data), order, 1, &after);
+        }
+    }
+    // Starts that fit neither 16 nor 23 bits, for short data and for long.
+    for start in [0x1_0001, 0x8A_5A5B] {
+        let two = list(&[(0x2000_0000, start, 3), (0x3000_0000, start + 1, 70_001)]);
+        let [short, long] =
+            [(start, 3), (start + 1, 70_001)].map(|(at, size)| &data[at as usize..][..size]);
+        let after = table(
+            9,
+            &[(0x2000_0000, short), (0x3000_0000, long)],
+            ByteOrder::HighFirst,
+        );
+        writes(9, (&two, &data), ByteOrder::HighFirst, 2, &after);
+    }
+    let most = (0x2000_0000, 0, TABLE_LIMIT as u32 - 16);
+    let large = vec![0xEE; TABLE_LIMIT + 12];
+    // One byte too short.
+    let short = &large[..TABLE_LIMIT - 1];
+    write_refuses((&list(&[most]), &data), short, 11, 0);
+    // A byte more, and a section more: with an output that would hold it, and
+    // with none, since 10 comes before 11.
+    let longer = (0x2000_0000, 0, TABLE_LIMIT as u32 - 15);
+    let small = (0x3000_0000, 0, 1);
+    for over in [&[longer][..], &[most, small], &[small, most]] {
+        write_refuses((&list(over), &data), &large, 10, 0);
+        write_refuses((&list(over), &data), &[], 10, 0);
+    }
+    // A bad section comes before 10.
+    write_refuses((&list(&[most, small, (0, 0, 0)]), &data), &large, 21, 2);
+    let past = (0, TABLE_LIMIT as u32, 1);
+    write_refuses((&list(&[most, small, past]), &data), &[], 20, 2);
+    let top = (0xFFFF_FFFF, 0, 2);
+    write_refuses((&list(&[most, small, top]), &data), &[], 8, 2);
+}
+
+#[test]
+fn as_many_listed_sections_as_the_limit_takes() {
+    let count = (TABLE_LIMIT - 8) / 12;
+    let mut many: Vec<ListSection> = (0..count as u32)
+        .map(|i| ListSection {
+            address: i * 3,
+            start: i % 4,
+            size: 1,
+        })
+        .collect();
+    for order in ByteOrder::BOTH {
+        let mut after = header_word(9, order).to_vec();
+        for i in 0..count {
+            after.extend(header_word(1, order));
+            after.extend(header_word(i as u32 * 3, order));
+            after.extend([DATA[i % 4], 0, 0, 0]);
+        }
+        after.extend([0; 4]);
+        assert_eq!(after.len(), 16_777_208);
+        writes(9, (&many, &DATA), order, count as u64, &after);
+    }
+    // One more is over the limit.
+    many.push(many[0]);
+    write_refuses((&many, &DATA), &vec![0xEE; TABLE_LIMIT + 4], 10, 0);
+    write_refuses((&many, &DATA), &[], 10, 0);
+    // And it is refused where it is bad.
+    many[count].size = 0;
+    write_refuses((&many, &DATA), &[], 21, count as u64);
+}
+
+#[test]
+fn lists_whose_tables_are_over_2_32_bytes() {
+    // Each section takes 65,536 bytes, so that the length is 8 more than 2^32, than
+    // 2^33 and than 2^34: in 32 bits it would be 8.
+    let data = vec![0xC4; 65_528];
+    let section = (0x2000_0000, 0, 65_528);
+    for count in [65_536, 131_072, 262_144] {
+        let mut long = list(&vec![section; count]);
+        write_refuses((&long, &data), &[0xEE; 64], 10, 0);
+        // With 12 bytes more it would be 20 in 32 bits.
+        long.extend(list(&[(0, 0, 1)]));
+        write_refuses((&long, &data), &[0xEE; 64], 10, 0);
+        // A bad section behind it all.
+        long.extend(list(&[(0, 65_528, 1)]));
+        write_refuses((&long, &data), &[0xEE; 64], 20, count as u64 + 1);
     }
 }
 

@@ -66,7 +66,7 @@ fn address_at(table: &[u8], order: ByteOrder, at: usize) -> u32
 }
 
 // Whether address plus size is over 2^32. The size is taken from 2^32, since with the sum the compiled walk is slower.
-fn is_past_top(address: u32, size: usize) -> bool
+pub fn is_past_top(address: u32, size: usize) -> bool
     requires { ⌜ size < 2 ^ 32 ⌝ }
     ensures { λ r. ⌜ r ≡ ltb (2 ^ 32) (address + size) ⌝ }
 {

@@ -12,7 +12,7 @@ use boot_table::form_of;
 use boot_table::step_at;
 use words::ByteOrder;
 use words::copy;
-use words::header_bytes;
+use words::put_header;
 use words::refusal::OUTPUT_SHORT;
 use words::refusal::RESULT_LONG;
 
@@ -70,12 +70,10 @@ fn write_join(first: &[u8], second: &[u8], order: ByteOrder, output: &mut [u8])
     requires { ⌜ joinedLength (now first) (now second) ≤ length (now output) ⌝ }
     ensures { λ _. ⌜ now (output .exit) ≡ joinedOver order (now (first .entry)) (now (second .entry)) (now (output .entry)) ⌝ }
 {
-    let entry = header_bytes(entry_of(second, order), order);
-    copy(&entry, output);
+    put_header(entry_of(second, order), order, output, 0);
     let middle = copy_sections(first, order, output, 4);
     let end = copy_sections(second, order, output, middle);
-    let zero = header_bytes(0, order);
-    copy(&zero, &mut output[end..]);
+    put_header(0, order, output, end);
 }
 
 // Joins two tables into the output, in their byte order: the second's entry, the first's sections, the second's sections, zero word.

@@ -3,4 +3,5 @@ pub mod SwapProof
 pub mod Theorem
 pub mod CallLaws
 pub mod OrderProof
+pub mod WritingProof
 pub mod CardsProof

@@ -10,6 +10,9 @@ use Rattle.loader.specs.declared.Answer.{Answer}
 use Rattle.loader.specs.Load.{loadAnswer, loadMemory}
 use Rattle.joiner.specs.declared.Joined.{Joined}
 use Rattle.joiner.specs.Join.{joinAnswer, joinOutput}
+use Rattle.writer.specs.declared.Section.{Section}
+use Rattle.writer.specs.declared.Written.{Written}
+use Rattle.writer.specs.Write.{writeAnswer, writeOutput}
 use Rattle.boot_config.specs.declared.Configured.{Configured}
 use Rattle.boot_config.specs.Config.{configAnswer, configValues}
 use Rattle.boot_strap.specs.declared.Manner.{Manner}
@@ -25,6 +28,7 @@ use Rattle.boot_strap.specs.Strap.{decodeAs, decodeShort, sameAnswer, labelAnsw
 pub data Card : Type 0 where
   Load : ByteOrder → (map table memory : List ℕ) → Answer → List ℕ → Card
   Join : ByteOrder → (first second output : List ℕ) → Joined → List ℕ → Card
+  Write : ByteOrder → (entry : ℕ) → List Section → (bytes output : List ℕ) → Written → List ℕ → Card
   Configure : (table addresses values : List ℕ) → Configured → List ℕ → Card
   Decode : Manner → ℕ → StrapAnswer → Card
   DecodeShort : ℕ → StrapAnswer → Card
@@ -35,6 +39,7 @@ pub data Card : Type 0 where
 abbrev pub Holds : Card → Type 0
 Holds (Load order map table memory answer after) = (loadAnswer order map table (length memory) ≡ answer) × (loadMemory order map table memory ≡ after)
 Holds (Join order first second output answer after) = (joinAnswer order first second (length output) ≡ answer) × (joinOutput order first second output ≡ after)
+Holds (Write order entry sections bytes output answer after) = (writeAnswer order entry sections bytes (length output) ≡ answer) × (writeOutput order entry sections bytes output ≡ after)
 Holds (Configure table addresses values answer after) = (configAnswer table addresses values ≡ answer) × (configValues table addresses values ≡ after)
 Holds (Decode manner value answer) = decodeAs manner value ≡ answer
 Holds (DecodeShort value answer) = decodeShort value ≡ answer
@@ -60,6 +65,12 @@ success n sections = record { number = 0; place = 0; which = 0; length = n; sect
 
 abbrev pub unjoined : ℕ → ℕ → ℕ → Joined
 unjoined number place which = record { number = number; place = place; which = which; length = 0; sections = 0 }
+
+abbrev pub wrote : ℕ → ℕ → Written
+wrote n sections = record { number = 0; place = 0; length = n; sections = sections }
+
+abbrev pub unwritten : ℕ → ℕ → Written
+unwritten number place = record { number = number; place = place; length = 0; sections = 0 }
 
 abbrev pub configured : ℕ → ℕ → Configured
 configured entries bits = record { number = 0; place = 0; entries = entries; bits = bits }
@@ -106,6 +117,30 @@ tableP =
 abbrev pub tableQ : List ℕ
 tableQ =
     0x00 ∷ 0x80 ∷ 0x00 ∷ 0x04 ∷ 0x00 ∷ 0x00 ∷ 0x00 ∷ 0x01 ∷ 0x00 ∷ 0x80 ∷ 0x00 ∷ 0x04 ∷ 0xB7 ∷ 0x00 ∷ 0x00 ∷ 0x00 ∷ 0x00 ∷ 0x00 ∷ 0x00 ∷ 0x00 ∷ []
+
+-- the data that P and Q are written from
+abbrev pub dataPQ : List ℕ
+dataPQ = 0xA1 ∷ 0xA2 ∷ 0xA3 ∷ 0xB7 ∷ []
+
+-- a section of a list
+abbrev pub listed : ℕ → ℕ → ℕ → Section
+listed address start size = record { address = address; start = start; size = size }
+
+-- A1 and B7 as two sections: the two touch, and there are three addresses between them
+abbrev pub touching : List ℕ
+touching =
+    0x00 ∷ 0x80 ∷ 0x00 ∷ 0x00 ∷ 0x00 ∷ 0x00 ∷ 0x00 ∷ 0x01 ∷ 0x00 ∷ 0x80 ∷ 0x00 ∷ 0x00 ∷ 0xA1 ∷ 0x00 ∷ 0x00 ∷ 0x00 ∷
+    0x00 ∷ 0x00 ∷ 0x00 ∷ 0x01 ∷ 0x00 ∷ 0x80 ∷ 0x00 ∷ 0x01 ∷ 0xB7 ∷ 0x00 ∷ 0x00 ∷ 0x00 ∷ 0x00 ∷ 0x00 ∷ 0x00 ∷ 0x00 ∷ []
+
+abbrev pub apart : List ℕ
+apart =
+    0x00 ∷ 0x80 ∷ 0x00 ∷ 0x00 ∷ 0x00 ∷ 0x00 ∷ 0x00 ∷ 0x01 ∷ 0x00 ∷ 0x80 ∷ 0x00 ∷ 0x00 ∷ 0xA1 ∷ 0x00 ∷ 0x00 ∷ 0x00 ∷
+    0x00 ∷ 0x00 ∷ 0x00 ∷ 0x01 ∷ 0x00 ∷ 0x80 ∷ 0x00 ∷ 0x04 ∷ 0xB7 ∷ 0x00 ∷ 0x00 ∷ 0x00 ∷ 0x00 ∷ 0x00 ∷ 0x00 ∷ 0x00 ∷ []
+
+-- the last address with all four bytes of the data, which need no pad
+abbrev pub atTop : List ℕ
+atTop =
+    0x00 ∷ 0x80 ∷ 0x00 ∷ 0x00 ∷ 0x00 ∷ 0x00 ∷ 0x00 ∷ 0x04 ∷ 0xFF ∷ 0xFF ∷ 0xFF ∷ 0xFC ∷ 0xA1 ∷ 0xA2 ∷ 0xA3 ∷ 0xB7 ∷ 0x00 ∷ 0x00 ∷ 0x00 ∷ 0x00 ∷ []
 
 -- memory of 16 bytes, and an output with room for 36
 abbrev pub memory : List ℕ
@@ -228,7 +263,7 @@ bothMasks =
 
 -- ---- the cards
 
--- the twelve cards of document 01, card 6 as request 2 and card 12 as request 7 of document 02 have them; for request 8 P and Q low first, and a word of four different bytes in each order; and for request 10 maps with kind 3
+-- the twelve cards of document 01, card 6 as request 2 and card 12 as request 7 of document 02 have them; for request 8 P and Q low first, and a word of four different bytes in each order; for request 10 maps with kind 3; and for request 1 tables that are written from lists
 abbrev pub cards : List Card
 cards =
     -- 1: P under M
@@ -333,4 +368,23 @@ cards =
     Load HighFirst mapOnceReserved joinPQ memory (refuse 9 4 0x00800004) memory ∷
     -- a record of kind 3 shares no address with an earlier permitted one
     Load HighFirst mapOnceShared tableP memory (refuse 2 1 0) memory ∷
+    -- P and Q, and P and Q in one table, written from lists over one run of data, in each order
+    Write HighFirst 0x00800000 (listed 0x00800002 0 3 ∷ []) dataPQ output (wrote 20 1) (tableP ++ replicate 16 0xEE) ∷
+    Write HighFirst 0x00800004 (listed 0x00800004 3 1 ∷ []) dataPQ output (wrote 20 1) (tableQ ++ replicate 16 0xEE) ∷
+    Write HighFirst 0x00800004 (listed 0x00800002 0 3 ∷ listed 0x00800004 3 1 ∷ []) dataPQ output (wrote 32 2) (joinPQ ++ replicate 4 0xEE) ∷
+    Write LowFirst 0x00800000 (listed 0x00800002 0 3 ∷ []) dataPQ output (wrote 20 1) (lowP ++ replicate 16 0xEE) ∷
+    Write LowFirst 0x00800004 (listed 0x00800004 3 1 ∷ []) dataPQ output (wrote 20 1) (lowQ ++ replicate 16 0xEE) ∷
+    Write LowFirst 0x00800004 (listed 0x00800002 0 3 ∷ listed 0x00800004 3 1 ∷ []) dataPQ output (wrote 32 2) (lowPQ ++ replicate 4 0xEE) ∷
+    -- sections that touch, and that lie near each other, stay two; no section; four bytes up to the last address
+    Write HighFirst 0x00800000 (listed 0x00800000 0 1 ∷ listed 0x00800001 3 1 ∷ []) dataPQ output (wrote 32 2) (touching ++ replicate 4 0xEE) ∷
+    Write HighFirst 0x00800000 (listed 0x00800000 0 1 ∷ listed 0x00800004 3 1 ∷ []) dataPQ output (wrote 32 2) (apart ++ replicate 4 0xEE) ∷
+    Write HighFirst 0x00800000 [] [] output (wrote 8 0) (noSections ++ replicate 28 0xEE) ∷
+    Write HighFirst 0x00800000 (listed 0xFFFFFFFC 0 4 ∷ []) dataPQ output (wrote 20 1) (atTop ++ replicate 16 0xEE) ∷
+    -- the first bad section of a list, and in it 21, 20, 8 in this order
+    Write HighFirst 0x00800000 (listed 0x00800002 0 3 ∷ listed 0xFFFFFFFF 5 0 ∷ listed 0x00800004 4 1 ∷ []) dataPQ output (unwritten 21 1) output ∷
+    Write HighFirst 0x00800000 (listed 0xFFFFFFFF 3 2 ∷ listed 0x00800002 0 0 ∷ []) dataPQ output (unwritten 20 0) output ∷
+    Write HighFirst 0x00800000 (listed 0x00800002 4 1 ∷ []) dataPQ output (unwritten 20 0) output ∷
+    Write HighFirst 0x00800000 (listed 0x00800002 0 3 ∷ listed 0x00800004 3 1 ∷ listed 0xFFFFFFFF 0 2 ∷ []) dataPQ output (unwritten 8 2) output ∷
+    -- a table that is one byte longer than the output
+    Write HighFirst 0x00800000 (listed 0x00800002 0 3 ∷ []) dataPQ (replicate 19 0xEE) (unwritten 11 0) (replicate 19 0xEE) ∷
     []

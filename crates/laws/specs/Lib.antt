@@ -1,4 +1,5 @@
 pub mod Calls
 pub mod Demand3
 pub mod Orders
+pub mod Writing
 pub mod Cards

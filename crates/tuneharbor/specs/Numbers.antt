@@ -8,6 +8,7 @@ use Rattle.words.specs.declared.ByteOrder.the-variants.{HighFirst, LowFirst}
 use Rattle.region_map.specs.declared.MapAnswer.{MapAnswer}
 use Rattle.loader.specs.declared.Answer.{Answer}
 use Rattle.joiner.specs.declared.Joined.{Joined}
+use Rattle.writer.specs.declared.Written.{Written}
 use Rattle.boot_config.specs.declared.Configured.{Configured}
 use Rattle.boot_strap.specs.declared.Manner.{Manner}
 use Rattle.boot_strap.specs.declared.Manner.the-variants.{Strict, Lenient}
@@ -25,6 +26,10 @@ loadNumbers r = r .number ∷ r .place ∷ r .address ∷ r .entry ∷ boolByte 
 -- number, place, which table, length, sections
 unfoldable pub joinNumbers : Joined → List ℕ
 joinNumbers r = r .number ∷ r .place ∷ r .which ∷ r .length ∷ r .sections ∷ []
+
+-- number, place, length, sections
+unfoldable pub writeNumbers : Written → List ℕ
+writeNumbers r = r .number ∷ r .place ∷ r .length ∷ r .sections ∷ []
 
 -- number, place, entries, bits
 unfoldable pub configNumbers : Configured → List ℕ

@@ -4,9 +4,10 @@ ghost use lib.ListN.{length};
 ghost use Rattle.region_map.specs.Map.{mapAnswer};
 ghost use Rattle.loader.specs.Load.{judgeAnswer, loadAnswer, loadMemory};
 ghost use Rattle.joiner.specs.Join.{joinAnswer, joinOutput};
+ghost use Rattle.writer.specs.Write.{writeAnswer, writeOutput};
 ghost use Rattle.boot_config.specs.Config.{configAnswer, configValues};
 ghost use Rattle.boot_strap.specs.Strap.{numbersAs, numbersShort, nine, sameAnswer, labelAnswer};
-ghost use Rattle.tuneharbor.specs.Numbers.{mapNumbers, loadNumbers, joinNumbers, configNumbers};
+ghost use Rattle.tuneharbor.specs.Numbers.{mapNumbers, loadNumbers, joinNumbers, writeNumbers, configNumbers};
 ghost use Rattle.tuneharbor.specs.Numbers.{orderOf, mannerOf, sameNumbers, labelNumbers};
 use boot_config::configure;
 use boot_strap::Manner;
@@ -16,6 +17,9 @@ use loader::judge;
 use loader::load;
 use region_map::judge_map;
 use words::ByteOrder;
+use writer::Section;
+use writer::Written;
+use writer::write;
 
 // Judges a map.
 #[no_mangle]
@@ -95,6 +99,37 @@ pub extern "C" fn tuneharbor_join(
         r.length as u64,
         r.sections as u64,
     ];
+}
+
+// Puts an answer of writing into an array.
+fn put_written(written: Written, answer: &mut [u64; 4])
+    ensures { λ _. ⌜ now (answer .exit) ≡ writeNumbers written ⌝ }
+{
+    *answer = [
+        written.number as u64,
+        written.place as u64,
+        written.length as u64,
+        written.sections as u64,
+    ];
+}
+
+// Writes the table of an entry and a list of sections into an output.
+#[no_mangle]
+pub extern "C" fn tuneharbor_write(
+    entry: u32,
+    sections: &[Section],
+    data: &[u8],
+    low_first: bool,
+    output: &mut [u8],
+    answer: &mut [u64; 4],
+)
+    ensures { λ _. ⌜ now (answer .exit) ≡ writeNumbers (writeAnswer (orderOf «low_first») entry (now (sections .entry)) (now («data» .entry)) (length (now (output .entry)))) ⌝ }
+    ensures { λ _. ⌜ now (output .exit) ≡ writeOutput (orderOf «low_first») entry (now (sections .entry)) (now («data» .entry)) (now (output .entry)) ⌝ }
+{
+    put_written(
+        write(entry, sections, data, order_of(low_first), output),
+        answer,
+    );
 }
 
 // Sets and clears bits of registers by a configuration table.

@@ -6,7 +6,7 @@ use native.Mathlib.Nat.{zero-add, add-zero, add-assoc}
 use native.Mathlib.Numerals.{add-one}
 use native.Mathlib.Omega.{arith}
 use lib.ListN.{length, getD, take, drop, set, length-append, length-take, length-drop, take-append-drop, drop-of-length-le}
-use lib.Seq.{drop-cons, take-suc, set-at, append-snoc, length-take-le, take-at, drop-at, drop-drop, take-all}
+use lib.Seq.{drop-cons, take-suc, set-at, append-snoc, length-take-le, take-at, drop-at, drop-drop, take-all, take-take, take-append-le, drop-append-le, drop-append-add}
 use borrow.Rule.Slice.PartMut.{putMid}
 use Rattle.words.specs.Run.{over}
 
@@ -55,3 +55,18 @@ module _ (d : List ℕ) (to : ℕ) (xs : List ℕ) (fits : to + length xs ≤ le
       let q : drop (to + length xs + length ys) (take to d ++ xs ++ drop (to + length xs) d) ≡ drop (to + length xs + length ys) d =
       sym (drop-drop (length ys) (to + length xs) _) ∙ ap (drop (length ys)) (drop-at (take to d ++ xs) _ _ l) ∙ drop-drop (length ys) (to + length xs) d in
       rw (e, p, q) (simp (append-assoc, length-append, add-assoc))
+
+  -- a run stored over the front of another, from before it on: what it leaves of the other, past its first k bytes, stands behind it
+  pub over-before : (n k : ℕ) (ys : List ℕ) → n ≤ to → n + length ys ≡ to + k → k ≤ length xs → over (over d to xs) n ys ≡ over d n (ys ++ drop k xs)
+  unfolding over
+  over-before n k ys low meets within =
+      let rest : List ℕ = drop (to + length xs) d in
+      let l : length (take to d) ≡ to = length-take-le to d (omega arith) in
+      let m : length (take to d ++ xs) ≡ to + length xs = simp (length-append, length-take) (omega arith) in
+      let p : take n (take to d ++ xs ++ rest) ≡ take n d =
+      take-append-le n (take to d ++ xs) rest (omega arith) ∙ take-append-le n (take to d) xs (omega arith) ∙ take-take n to d low in
+      let c : n + length ys ≡ length (take to d) + k = omega arith in
+      let q : drop (n + length ys) (take to d ++ xs ++ rest) ≡ drop k xs ++ rest =
+      rw (c, append-assoc) (drop-append-add (take to d) (xs ++ rest) k ∙ drop-append-le k xs rest within) in
+      let e : n + length (ys ++ drop k xs) ≡ to + length xs = simp (length-append, length-drop) (omega arith) in
+      rw (p, q, e) (simp append-assoc)

@@ -5,7 +5,7 @@ use Prim.Native.Nat.{ℕ, zero, suc, _+_, _*_, _/_, _%_, _≤_, _<_, _^_}
 use native.Mathlib.Omega.{arith}
 use native.Mathlib.Nat.{add-zero, mod-eq-of-lt, div-div-eq-div-mul}
 use lib.ListN.{length, getD, take, drop, length-drop}
-use lib.Seq.{getD-drop}
+use lib.Seq.{getD-drop, take-append-seam, drop-append-seam}
 use Rattle.words.specs.Word.{Bytes, wordAt, wordBytes, padCount}
 
 -- a word that is written is read back
@@ -59,6 +59,9 @@ pub bytes-append : (s t : List ℕ) → Bytes s → Bytes t → Bytes (s ++ t)
 bytes-append [] t p q i = q i
 bytes-append (x ∷ s) t p q zero = p 0
 bytes-append (x ∷ s) t p q (suc i) = bytes-append s t (λ j. p (suc j)) q i
+
+pub bytes-parts : (s t : List ℕ) → Bytes (s ++ t) → (Bytes s) × (Bytes t)
+bytes-parts s t b = (rw (take-append-seam s t) at (bytes-take (s ++ t) (length s) b), rw (drop-append-seam s t) at (bytes-drop (s ++ t) (length s) b))
 
 -- a word that is read is written back
 pub bytes-word : (t : List ℕ) (i : ℕ) → Bytes t → i + 4 ≤ length t → wordBytes (wordAt t i) ≡ take 4 (drop i t)

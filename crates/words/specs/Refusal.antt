@@ -75,6 +75,14 @@ STRAP-LONG = 18
 abbrev pub STRAP-RESERVED : ℕ
 STRAP-RESERVED = 19
 
+-- a section of the list has its start plus size past the data
+abbrev pub PAST-DATA : ℕ
+PAST-DATA = 20
+
+-- a section of the list has size zero
+abbrev pub SIZE-ZERO : ℕ
+SIZE-ZERO = 21
+
 -- an address that takes one write is stored twice
 abbrev pub STORED-TWICE : ℕ
 STORED-TWICE = 29

@@ -5,6 +5,7 @@ ghost use Prim.Native.Nat.{_+_, _*_, _^_, _≤_, _<_, min, max};
 ghost use lib.ListN.{length, drop};
 ghost use Rattle.words.specs.Word.{wordAt, padCount};
 ghost use Rattle.words.specs.Header.{headerAt, headerBytes};
+ghost use Rattle.words.specs.Run.{over};
 
 pub mod refusal;
 
@@ -50,20 +51,6 @@ pub fn header_at(table: &[u8], order: ByteOrder, at: usize) -> u32
     }
 }
 
-// The bytes that a header word is written as.
-pub fn header_bytes(word: u32, order: ByteOrder) -> [u8; 4]
-    ensures { λ r. ⌜ r ≡ headerBytes order word ⌝ }
-{
-    let a = (word / 16_777_216 % 256) as u8;
-    let b = (word / 65_536 % 256) as u8;
-    let c = (word / 256 % 256) as u8;
-    let d = (word % 256) as u8;
-    match order {
-        ByteOrder::HighFirst => [a, b, c, d],
-        ByteOrder::LowFirst => [d, c, b, a],
-    }
-}
-
 // So many data bytes and their pads: the next multiple of four.
 pub fn padded(size: usize) -> usize
     requires { ⌜ size < 2 ^ 32 ⌝ }
@@ -95,5 +82,28 @@ pub fn copy(run: &[u8], part: &mut [u8])
     while i < run.len() {
         part[i] = run[i];
         i += 1;
+    }
+}
+
+// Stores four bytes in an output, from an offset on.
+pub fn put_four(four: [u8; 4], output: &mut [u8], at: usize)
+    requires { ⌜ at + 4 ≤ length (now output) ⌝ }
+    ensures { λ _. ⌜ now (output .exit) ≡ over (now (output .entry)) at four ⌝ }
+{
+    copy(&four, &mut output[at..]);
+}
+
+// Writes a header word into an output, at an offset. Each order stores its own four bytes: to choose the bytes and then store them is slower.
+pub fn put_header(word: u32, order: ByteOrder, output: &mut [u8], at: usize)
+    requires { ⌜ at + 4 ≤ length (now output) ⌝ }
+    ensures { λ _. ⌜ now (output .exit) ≡ over (now (output .entry)) at (headerBytes order word) ⌝ }
+{
+    let a = (word / 16_777_216 % 256) as u8;
+    let b = (word / 65_536 % 256) as u8;
+    let c = (word / 256 % 256) as u8;
+    let d = (word % 256) as u8;
+    match order {
+        ByteOrder::HighFirst => put_four([a, b, c, d], output, at),
+        ByteOrder::LowFirst => put_four([d, c, b, a], output, at),
     }
 }

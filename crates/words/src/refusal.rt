@@ -56,5 +56,11 @@ pub const STRAP_LONG: u32 = 18;
 // The strap value is reserved.
 pub const STRAP_RESERVED: u32 = 19;
 
+// A section of the list has its start plus size past the data.
+pub const PAST_DATA: u32 = 20;
+
+// A section of the list has size zero.
+pub const SIZE_ZERO: u32 = 21;
+
 // An address that takes one write is stored twice.
 pub const STORED_TWICE: u32 = 29;

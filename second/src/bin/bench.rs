@@ -2,7 +2,9 @@
 //! bytes. docs/BENCHMARK.md says what is measured and how.
 
 use second::cases::{self, Numbers};
-use second::reference::{ByteOrder, CONFIG_LIMIT, REGISTER_LIMIT, STRAP_LIMIT, TABLE_LIMIT};
+use second::reference::{
+    ByteOrder, ListSection, CONFIG_LIMIT, REGISTER_LIMIT, STRAP_LIMIT, TABLE_LIMIT,
+};
 use second::{calls, fast};
 use std::fmt::Debug;
 use std::hint::black_box;
@@ -103,13 +105,15 @@ struct Line<'a> {
 fn print_header() {
     println!("Times in microseconds (us) for one call, for straps for {VALUES} calls: the best");
     println!("of {REPEATS} repeats, in slow cases of fewer, but at least of {FEWEST}.");
-    println!("Buffers are touched once before timing: tables, memory, output, values.");
-    println!("case: the order of the sections (load, judge, join), of the records (map), of the");
-    println!("entries (configure). Under a table the records touch and stand in falling order;");
-    println!("apart: they do not touch; reserved: half of them are reserved; once: half of the");
-    println!("sections lie in kind 3, or all of them where there is one record.");
-    println!("sections, bytes: of the table, for join of both tables; bytes are data bytes,");
-    println!("for configure those of the entries. records: map records.");
+    println!("Buffers are touched once before timing: tables, lists, data, memory, output,");
+    println!("values.");
+    println!("case: the order of the sections (load, judge, join, write), of the records (map),");
+    println!("of the entries (configure). Under a table the records touch and stand in falling");
+    println!("order; apart: they do not touch; reserved: half of them are reserved; once: half");
+    println!("of the sections lie in kind 3, or all of them where there is one record.");
+    println!("sections, bytes: of the table, for join of both tables, for write of the table");
+    println!("that is written; bytes are data bytes, for configure those of the entries.");
+    println!("records: map records.");
     println!("memcpy: copy_from_slice of as many bytes; none where the call copies nothing.");
     println!("lib/fast, lib/memcpy: the library's time over the other's.");
     println!("Tables are high first; low: the same sections, low first; l/h: the low-first time");
@@ -576,6 +580,68 @@ fn join(numbers: &mut Numbers, count: usize) {
     print_orders(line, measure(&mut (tables, output), [high, low]));
 }
 
+/// A list of sections of one size, which lie one after the other and whose data
+/// does. The output has the table's length.
+fn write(numbers: &mut Numbers, count: usize, size: usize) {
+    let data = numbers.bytes(count * size);
+    let list: Vec<ListSection> = (0..count)
+        .map(|i| (i * size) as u32)
+        .map(|start| ListSection {
+            address: BASE + start,
+            start,
+            size: size as u32,
+        })
+        .collect();
+    let mut output = vec![0x5A; 8 + count * (8 + size.next_multiple_of(4))];
+
+    for order in ByteOrder::BOTH {
+        output.fill(0x5A);
+        let answer = calls::write(BASE, &list, &data, order, &mut output);
+        let mut other = vec![0xA5; output.len()];
+        let expected = fast::write(BASE, &list, &data, order, &mut other);
+        assert_eq!(answer, expected);
+        assert!(output == other, "the same output");
+        assert_eq!((answer.number, answer.sections), (0, count as u64));
+    }
+
+    // What the compiler knows nothing of.
+    let lent = || black_box((BASE, &list[..], &data[..]));
+    let [mut high, low] = ByteOrder::BOTH.map(|order| Group {
+        before: Box::new(|_: &mut Vec<u8>| ()),
+        works: vec![
+            Box::new(move |output| {
+                let (entry, list, data) = lent();
+                black_box(calls::write(entry, list, data, order, output));
+            }),
+            Box::new(move |output| {
+                let (entry, list, data) = lent();
+                black_box(fast::write(entry, list, data, order, output));
+            }),
+        ],
+    });
+    let bytes = data.len();
+    high.works.push(Box::new(|output| {
+        output[..bytes].copy_from_slice(&data);
+    }));
+    let line = Line {
+        call: "write",
+        case: "rising",
+        sections: Some(count),
+        bytes: Some(bytes),
+        ..Default::default()
+    };
+    print_orders(line, measure(&mut output, [high, low]));
+}
+
+/// The same sizes as for loading, but a round million of four bytes.
+fn writes(numbers: &mut Numbers) {
+    write(numbers, 1, TABLE_LIMIT - 16);
+    write(numbers, 1000, 16 * 1024);
+    write(numbers, most(64), 64);
+    write(numbers, 1_000_000, 4);
+    write(numbers, most(1), 1);
+}
+
 fn configure(numbers: &mut Numbers) {
     let addresses: Vec<u32> = (0..REGISTER_LIMIT as u32)
         .map(|i| 0x0262_0000 + 4 * i)
@@ -725,6 +791,7 @@ fn main() {
     for count in [1, 100, 10_000] {
         join(&mut numbers, count);
     }
+    writes(&mut Numbers::new(cases::SEED, 81));
     configure(&mut numbers);
     straps(&mut numbers);
 }
