@@ -5,10 +5,12 @@
  *   cc -std=c99 -Wall -Wextra -Werror -Iinclude examples/write.c target/staticlib/libtuneharbor.a -o target/write
  *   target/write | target/bin/lister
  *
- * The lister must print examples/write.expected. A refusal is reported on
- * standard error, and the exit status is then not 0. */
+ * The lister must print examples/write.expected. With the argument p or q, that
+ * table alone is put on standard output. A refusal is reported on standard
+ * error, and the exit status is then not 0. */
 #include <inttypes.h>
 #include <stdio.h>
+#include <string.h>
 
 #include "tuneharbor.h"
 
@@ -25,6 +27,9 @@ static const tuneharbor_section list_q[] = {{0x00800004, 3, 1}};
 
 /* The byte order of the tables: true for the low byte first. */
 static const bool low_first = false;
+
+/* Room for the tables. */
+static uint8_t table_p[256], table_q[256], joined[512];
 
 #define COUNT(list) (sizeof(list) / sizeof(list)[0])
 
@@ -49,9 +54,19 @@ static size_t write_table(const char *what, uint32_t entry,
     return (size_t)answer[2];
 }
 
-int main(void)
+/* Puts a table on standard output, and answers the exit status. */
+static int put(const uint8_t *table, size_t length)
 {
-    uint8_t table_p[256], table_q[256], joined[512];
+    if (fwrite(table, 1, length, stdout) != length || fflush(stdout) != 0) {
+        fprintf(stderr, "the table cannot be put on standard output\n");
+        return 1;
+    }
+    return 0;
+}
+
+int main(int argc, char **argv)
+{
+    const char *which = argc > 1 ? argv[1] : "join";
     uint64_t answer[5];
     size_t length_p, length_q;
 
@@ -61,6 +76,10 @@ int main(void)
                            sizeof table_q);
     if (length_p == 0 || length_q == 0)
         return 1;
+    if (strcmp(which, "p") == 0)
+        return put(table_p, length_p);
+    if (strcmp(which, "q") == 0)
+        return put(table_q, length_q);
 
     tuneharbor_join(table_p, length_p, table_q, length_q, low_first, joined,
                     sizeof joined, answer);
@@ -68,10 +87,5 @@ int main(void)
         report("join of P and Q", answer);
         return 1;
     }
-    if (fwrite(joined, 1, (size_t)answer[3], stdout) != answer[3] ||
-        fflush(stdout) != 0) {
-        fprintf(stderr, "the join cannot be put on standard output\n");
-        return 1;
-    }
-    return 0;
+    return put(joined, (size_t)answer[3]);
 }

@@ -39,7 +39,7 @@ pub record LoadsListed (o : ByteOrder) (m : List ℕ) (entry : ℕ) (xs : List S
       ≡ record { number = 0; place = 0; address = 0; entry = entry; entry_open = isOpen m entry; sections = length xs; bytes = listedBytes xs }
   pub memory : loadAnswer o m t (length mem) .number ≡ 0 → loadMemory o m t mem ≡ storeListed m mem d xs
 
--- so for every order, entry, list, data and output with room, and every map and memory
+-- so in every order, wherever the table can be written, and for every map and memory
 abbrev pub WrittenLoads : Type 0
 WrittenLoads = (o : ByteOrder) (m : List ℕ) (entry : ℕ) (xs : List Section) (d out mem : List ℕ)
     → entry < 2 ^ 32 → Writable o entry xs d (length out) → LoadsListed o m entry xs d mem (writtenIn o entry xs d out)

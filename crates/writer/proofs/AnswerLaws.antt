@@ -59,10 +59,10 @@ module _ (bytes count room : ℕ) where
 -- ---- the first bad section
 
 module _ (n : ℕ) (fine : Written) where
-  pub list-sound : {xs : List Section} (i : ℕ) → Faultless n xs → listRule n fine i xs ≡ fine
+  pub list-faultless : {xs : List Section} (i : ℕ) → Faultless n xs → listRule n fine i xs ≡ fine
   unfolding listRule
-  list-sound i none = refl
-  list-sound i (also {x = x} e s) = rw (eq-eqb _ _ e) (list-sound (suc i) s)
+  list-faultless i none = refl
+  list-faultless i (also {x = x} e s) = rw (eq-eqb _ _ e) (list-faultless (suc i) s)
 
   pub list-only : (i : ℕ) (xs : List Section) → listRule n fine i xs .number ≡ 0 → Faultless n xs
   unfolding listRule
@@ -80,9 +80,9 @@ module _ (j : Judged) (count room : ℕ) where
   unfolding answerOf
   answer-bad z = simp (ne-eqb _ _ z)
 
-  pub answer-sound : j .number ≡ 0 → roomRule (j .length) count room ≡ answerOf j count room
+  pub answer-counted : j .number ≡ 0 → roomRule (j .length) count room ≡ answerOf j count room
   unfolding answerOf
-  answer-sound z = simp (eq-eqb _ _ z)
+  answer-counted z = simp (eq-eqb _ _ z)
 
 module _ (o : ByteOrder) (d : List ℕ) (count room : ℕ) where
   -- a section more: over the limit it changes nothing
@@ -116,14 +116,14 @@ module _ (o : ByteOrder) (entry : ℕ) (xs : List Section) (d : List ℕ) (room 
   pub write-accepts : Faultless (length d) xs → length (writtenTable o entry xs d) ≤ tableLimit → length (writtenTable o entry xs d) ≤ room
       → writeAnswer o entry xs d room ≡ record { number = 0; place = 0; length = length (writtenTable o entry xs d); sections = length xs }
   unfolding writeAnswer
-  write-accepts s h k = list-sound (length d) _ 0 s ∙ sym (room-done _ (length xs) room h k)
+  write-accepts s h k = list-faultless (length d) _ 0 s ∙ sym (room-done _ (length xs) room h k)
 
   -- nothing else is written
   pub write-only : writeAnswer o entry xs d room .number ≡ 0 → (Faultless (length d) xs) × (length (writtenTable o entry xs d) ≤ tableLimit) × (length (writtenTable o entry xs d) ≤ room)
   unfolding writeAnswer
   write-only z =
       let s = list-only (length d) _ 0 xs z in
-      let r = room-only _ (length xs) room (rw (list-sound (length d) (roomRule (length (writtenTable o entry xs d)) (length xs) room) 0 s) at z) in
+      let r = room-only _ (length xs) room (rw (list-faultless (length d) (roomRule (length (writtenTable o entry xs d)) (length xs) room) 0 s) at z) in
       (s, r .0, r .1)
 
 -- ---- the output, by the answer r

@@ -34,8 +34,8 @@ module _ (x : Section) (n : ℕ) where
 -- ---- a section with no fault
 
 -- it has data, within what is lent, and none past the top
-pub sound-section : (x : Section) (n : ℕ) → faultOf x n ≡ 0 → (1 ≤ x .size) × (x .start + x .size ≤ n) × (x .address + x .size ≤ 2 ^ 32)
-sound-section x n e =
+pub faultless-section : (x : Section) (n : ℕ) → faultOf x n ≡ 0 → (1 ≤ x .size) × (x .start + x .size ≤ n) × (x .address + x .size ≤ 2 ^ 32)
+faultless-section x n e =
     by-cases (ℕ-discrete (x .size) 0) (λ z. absurd (omega (arith, fault-empty x n z))) (λ z.
     by-cases (decLe (x .start + x .size) n)
     (λ h. by-cases (decLe (x .address + x .size) (2 ^ 32)) (λ k. (omega arith, h, k)) (λ k. absurd (omega (arith, fault-top x n z h (omega arith)))))
@@ -44,4 +44,4 @@ sound-section x n e =
 -- its data has as many bytes as its size says
 pub length-data : (d : List ℕ) (x : Section) → faultOf x (length d) ≡ 0 → length (dataOf d x) ≡ x .size
 unfolding dataOf
-length-data d x e = length-take-le (x .size) (drop (x .start) d) (simp length-drop (omega (arith, sound-section x (length d) e)))
+length-data d x e = length-take-le (x .size) (drop (x .start) d) (simp length-drop (omega (arith, faultless-section x (length d) e)))

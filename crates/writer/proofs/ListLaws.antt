@@ -19,8 +19,8 @@ pub rest-cons : (xs : List Section) (i : ℕ) → i < length xs → drop i xs �
 rest-cons xs i h = rw add-one (drop-cons xs i noSection h)
 
 -- where no section has a fault, the first has none, and neither have the others
-pub sound-cons : {n : ℕ} {x : Section} {xs : List Section} → Faultless n (x ∷ xs) → (faultOf x n ≡ 0) × Faultless n xs
-sound-cons (also z s) = (z, s)
+pub faultless-cons : {n : ℕ} {x : Section} {xs : List Section} → Faultless n (x ∷ xs) → (faultOf x n ≡ 0) × Faultless n xs
+faultless-cons (also z s) = (z, s)
 
 -- a list without sections has no bytes
 pub sects-none : (o : ByteOrder) (d : List ℕ) → length (chunks o (sectsOf [] d)) ≡ 0

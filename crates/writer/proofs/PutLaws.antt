@@ -11,7 +11,7 @@ use Rattle.words.proofs.RunLaws.{over-none, over-over}
 use Rattle.boot_table.specs.Table.{nextOf, chunk, chunks}
 use Rattle.writer.specs.declared.Section.{Section}
 use Rattle.writer.specs.Write.{sectOf, sectsOf, faultOf, Faultless}
-use Rattle.writer.proofs.ListLaws.{noSection, rest-cons, sound-cons, sects-cons}
+use Rattle.writer.proofs.ListLaws.{noSection, rest-cons, faultless-cons, sects-cons}
 use Rattle.writer.proofs.SectionLaws.{next-sect}
 
 -- before the section of an index, at an offset: the others have no fault and fit, and with them the output is what it is to be
@@ -42,15 +42,15 @@ module _ (o : ByteOrder) (xs : List Section) (d out₀ : List ℕ) where
       cut : drop i xs ≡ x ∷ drop (i + 1) xs
       cut = rest-cons xs i h
 
-      cut-sound : (faultOf x (length d) ≡ 0) × Faultless (length d) (drop (i + 1) xs)
-      cut-sound = sound-cons (rw cut at (p .faultless))
+      cut-faultless : (faultOf x (length d) ≡ 0) × Faultless (length d) (drop (i + 1) xs)
+      cut-faultless = faultless-cons (rw cut at (p .faultless))
 
       cut-chunks : chunks o (sectsOf (drop i xs) d) ≡ chunk o (sectOf d x) ++ rest
       cut-chunks = rw cut (sects-cons o x (drop (i + 1) xs) d)
 
       -- the offset after it
       next : nextOf at (x .size) ≡ at + length (chunk o (sectOf d x))
-      next = next-sect o d x at (cut-sound .0)
+      next = next-sect o d x at (cut-faultless .0)
 
       -- its bytes and those of the others
       cut-length : at + length (chunks o (sectsOf (drop i xs) d)) ≡ nextOf at (x .size) + length rest
@@ -60,13 +60,13 @@ module _ (o : ByteOrder) (xs : List Section) (d out₀ : List ℕ) where
 
       -- what `put_section` requires
       pub put-fits : (faultOf x (length d) ≡ 0) × (nextOf at (x .size) ≤ length out)
-      put-fits = (cut-sound .0, omega (arith, p .room, cut-length))
+      put-fits = (cut-faultless .0, omega (arith, p .room, cut-length))
 
       -- a section more
       pub put-turns : (at′ : ℕ) (out′ : List ℕ) → length out′ ≡ length out → (at′ ≡ nextOf at (x .size)) × (out′ ≡ over out at (chunk o (sectOf d x))) → PutAt o xs d out₀ (i + 1) at′ out′
       put-turns at′ out′ l e = record {
         same = l ∙ p .same;
-        faultless = cut-sound .1;
+        faultless = cut-faultless .1;
         room = omega (arith, p .room, cut-length, e .0);
         ends = omega (arith, p .ends, cut-length, e .0);
         outs = rw (e .1) (over-over out at (chunk o (sectOf d x)) (omega (arith, put-fits .1, next)) rest at′ (e .0 ∙ next) ∙ rw (← cut-chunks) (p .outs));

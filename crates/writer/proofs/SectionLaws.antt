@@ -17,7 +17,7 @@ use Rattle.boot_table.specs.Table.{nextOf, chunk}
 use Rattle.writer.specs.declared.Section.{Section}
 use Rattle.writer.specs.Write.{dataOf, sectOf, faultOf}
 use Rattle.writer.specs.Judging.{paddedData}
-use Rattle.writer.proofs.FaultLaws.{sound-section, length-data}
+use Rattle.writer.proofs.FaultLaws.{faultless-section, length-data}
 
 -- ---- how many they are
 
@@ -88,11 +88,11 @@ cleared-data d out start size at next long within is room {o1} {o2} e1 e2 =
     ∙ ap (λ (z : List ℕ). over out at (body ++ z)) (last-zeros pads l))
 
 -- size word, address word, data and pads are the section's bytes
-module _ (o : ByteOrder) (b d : List ℕ) (x : Section) (at : ℕ) (sound : faultOf x (length b) ≡ 0) (room : nextOf at (x .size) ≤ length d) where
+module _ (o : ByteOrder) (b d : List ℕ) (x : Section) (at : ℕ) (faultless : faultOf x (length b) ≡ 0) (room : nextOf at (x .size) ≤ length d) where
   -- what a section asks of the data and of the output
   pub section-room : (1 ≤ x .size) × (x .start + x .size ≤ length b) × (at + 8 + (x .size + padCount (x .size)) ≤ length d)
   unfolding nextOf
-  section-room = let s = sound-section x (length b) sound in (s .0, s .1, omega (arith, room))
+  section-room = let s = faultless-section x (length b) faultless in (s .0, s .1, omega (arith, room))
 
   pub section-parts : {o1 o2 o3 : List ℕ} → o1 ≡ over d at (headerBytes o (x .size)) → o2 ≡ over o1 (at + 4) (headerBytes o (x .address))
       → o3 ≡ over o2 (at + 8) (paddedData b (x .start) (x .size)) → o3 ≡ over d at (chunk o (sectOf b x))
@@ -106,7 +106,7 @@ module _ (o : ByteOrder) (b d : List ℕ) (x : Section) (at : ℕ) (sound : faul
       let l1 : length w1 ≡ 4 = length-header o (x .size) in
       let l2 : length w2 ≡ 4 = length-header o (x .address) in
       let lw : length (w1 ++ w2) ≡ 8 = simp length-append (omega arith) in
-      let lb : length body ≡ x .size = length-data b x sound in
+      let lb : length body ≡ x .size = length-data b x faultless in
       let same : w1 ++ w2 ++ (body ++ pads) ≡ headerBytes o (length body) ++ w2 ++ body ++ pads = rw lb (simp append-assoc) in
       let words : o2 ≡ over d at (w1 ++ w2) = rw (e2, e1) (over-over d at w1 (omega arith) w2 (at + 4) (omega arith)) in
       e3 ∙ ap (λ (y : List ℕ). over y (at + 8) (body ++ pads)) words ∙ over-over d at (w1 ++ w2) (omega arith) (body ++ pads) (at + 8) (omega arith) ∙ ap (over d at) same

@@ -22,7 +22,7 @@ use Rattle.writer.specs.Write as Write
 use Rattle.writer.specs.Write.{dataOf, sectOf, sectsOf, writtenTable, faultOf, Faultless, writeAnswer, writeOutput}
 use Rattle.writer.specs.Trips as Trips
 use Rattle.writer.specs.Trips.{Writable, writtenIn, ReadsBack, WrittenReads, ownData, ownList, Words, ZeroPads, Rewritten, TablesRewritten}
-use Rattle.writer.proofs.FaultLaws.{sound-section, fault-none, length-data}
+use Rattle.writer.proofs.FaultLaws.{faultless-section, fault-none, length-data}
 use Rattle.writer.proofs.AnswerLaws.{length-written, write-accepts, write-only, output-kept, output-written}
 
 -- ---- when a table is written, and what the output then holds
@@ -64,12 +64,12 @@ data-chunks : (o : ByteOrder) (x : Section) (xs : List Section) (d : List ℕ) �
 unfolding chunks sectsOf sectOf chunk
 data-chunks o x xs d = simp length-append (omega arith)
 
--- the sections of a sound list are valid, where their bytes are fewer than a word counts
+-- the sections of a list without a fault are valid, where their bytes are fewer than a word counts
 sects-valid : (o : ByteOrder) (d : List ℕ) {xs : List Section} → Faultless (length d) xs → length (chunks o (sectsOf xs d)) < 2 ^ 32 → All Valid (sectsOf xs d)
 unfolding sectsOf sectOf
 sects-valid o d Write.none h = Valids.none
 sects-valid o d (Write.also {x = x} {xs = xs} z s) h =
-    let q = sound-section x (length d) z in
+    let q = faultless-section x (length d) z in
     let l : length (dataOf d x) ≡ x .size = length-data d x z in
     let k = data-chunks o x xs d in
     let v : Valid (sectOf d x) = record { some = rw l (q .0); small = omega arith; top = rw l (q .2); padded = rw l (length-replicate (padCount (x .size)) 0) } in
@@ -118,15 +118,15 @@ own-sects p (Valids.also {s = s} {ss = ss} v vs) (Valids.also z zs) =
     λ i. f i ∷ r i
 
 -- no section of that list has a fault
-own-sound : (p : List ℕ) {ss : List Sect} → All Valid ss → Faultless (length (p ++ ownData ss)) (ownList (length p) ss)
+own-faultless : (p : List ℕ) {ss : List Sect} → All Valid ss → Faultless (length (p ++ ownData ss)) (ownList (length p) ss)
 unfolding ownList ownData
-own-sound p Valids.none = Write.none
-own-sound p (Valids.also {s = s} {ss = ss} v vs) =
+own-faultless p Valids.none = Write.none
+own-faultless p (Valids.also {s = s} {ss = ss} v vs) =
     let n : length (p ++ s .body) ≡ length p + length (s .body) = length-append p (s .body) in
     let m : length (p ++ (s .body ++ ownData ss)) ≡ length p + (length (s .body) + length (ownData ss)) = simp length-append in
     let z : faultOf (record { address = s .address; start = length p; size = length (s .body) }) (length (p ++ (s .body ++ ownData ss))) ≡ 0 =
     sym (fault-none _ _ (λ c. omega (arith, v .some)) (omega arith) (v .top)) in
-    let rest : Faultless (length (p ++ (s .body ++ ownData ss))) (ownList (length p + length (s .body)) ss) = rw (← n, ← append-assoc) (own-sound (p ++ s .body) vs) in
+    let rest : Faultless (length (p ++ (s .body ++ ownData ss))) (ownList (length p + length (s .body)) ss) = rw (← n, ← append-assoc) (own-faultless (p ++ s .body) vs) in
     Write.also z rest
 
 -- its numbers are words, where the data is so short
@@ -176,7 +176,7 @@ module _ (o : ByteOrder) (t : List ℕ) (b : Bytes t) (w : WellFormed o t) (z : 
   again out h =
       let m : length (chunks o own) ≤ length t = omega (arith, length-read o t b w) in
       let g : Writable o (entryOf o t) (ownList 0 own) (ownData own) (length out) =
-      record { faultless = own-sound [] valid; short = rw table-is (w .short); fits = rw table-is h } in
+      record { faultless = own-faultless [] valid; short = rw table-is (w .short); fits = rw table-is h } in
       record {
         entry = header-lt o t 0 b;
         words = own-words 0 valid (omega (arith, own-short o own, w .short));

@@ -31,7 +31,7 @@ pub record ReadsBack (o : ByteOrder) (entry : ℕ) (xs : List Section) (d t : Li
   pub sections : reading o t .sections ≡ sectsOf xs d
   pub count : length (reading o t .sections) ≡ length xs
 
--- Reading a written table back gives what it was written from: in every byte order, for every entry, list and data, and every output with room.
+-- Reading a written table back gives what it was written from: in every byte order, wherever the table can be written, with room in the output.
 abbrev pub WrittenReads : Type 0
 WrittenReads = (o : ByteOrder) (entry : ℕ) (xs : List Section) (d out : List ℕ)
     → entry < 2 ^ 32 → Writable o entry xs d (length out) → ReadsBack o entry xs d (writtenIn o entry xs d out)

@@ -35,7 +35,7 @@ writtenTable o entry xs d = tableOf o entry (sectsOf xs d)
 
 -- ---- the first bad section
 
--- the number of a section's fault over n bytes of data, 0 where it has none
+-- the number of a section's first fault over n bytes of data, in the order 21, 20, 8; 0 where it has none
 unfoldable pub faultOf : Section → ℕ → ℕ
 faultOf x n =
     if (eqb (x .size) 0) SIZE-ZERO

@@ -45,7 +45,7 @@ struct Judged {
 
 // ---- judging the list
 
-// The number of a section's fault, where so many bytes of data are lent; 0 where it has none.
+// The number of a section's first fault, where so many bytes of data are lent; 0 where it has none.
 fn section_fault(section: Section, bytes: usize) -> u32
     ensures { λ r. ⌜ r ≡ faultOf section bytes ⌝ }
 {

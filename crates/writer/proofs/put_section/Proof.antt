@@ -11,7 +11,7 @@ use borrow.Author.Needs.{needs}
 use Rattle.writer.proofs.put_section.Statement.{statement}
 use Rattle.writer.proofs.put_section.Tie as tie
 
--- the section is sound, and the output has room for it
+-- the section has no fault, and the output has room for it
 roomy : (c : tie.Start) → let a = c .args in
     (1 ≤ a .section .size) × (a .section .start + a .section .size ≤ length (a .«data» .now)) × (a .at + 8 + (a .section .size + padCount (a .section .size)) ≤ length (a .output .now))
 roomy c = section-room (c .args .order) (c .args .«data» .now) (c .args .output .now) (c .args .section) (c .args .at) (c .pre .0) (c .pre .1)
