@@ -149,6 +149,30 @@ void tuneharbor_write(uint32_t entry,
                       uint8_t *output, size_t output_len,
                       uint64_t answer[4]);
 
+/* Finds what stands at an address in two boot tables, an older and a newer one
+ * in one byte order. In one table the last section that covers the address
+ * decides, and the newer table goes before the older. What is found is a part
+ * of that table: it begins at the byte for the address and runs to the end of
+ * its section's data. Where both tables load under one map, the first byte of
+ * the part is what loading the older and then the newer leaves at the address.
+ *
+ * Both tables are walked to their end words. Only size and address words are
+ * read, never an entry, a pad or a data byte. A table that is not well-formed
+ * is refused as in tuneharbor_join, the older as table 1.
+ *
+ * answer[0] number
+ * answer[1] place
+ * answer[2] the table that has the part, 1 the older or 2 the newer, or 0 where
+ *           neither covers the address; after a refusal the table that it
+ *           speaks of, 1 or 2
+ * answer[3] the offset of the part in its table, else 0
+ * answer[4] the part's length in bytes, else 0
+ * answer[5] how many bytes of both tables were read: 8 for each section and 4
+ *           for each end word */
+void tuneharbor_find(const uint8_t *older, size_t older_len,
+                     const uint8_t *newer, size_t newer_len, bool low_first,
+                     uint32_t address, uint64_t answer[6]);
+
 /* Sets and clears bits of registers by a configuration table. A register has
  * its address and its value at one index of the two lists. Lists of different
  * lengths, of more than 1,024, or whose addresses do not strictly rise are

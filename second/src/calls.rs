@@ -4,8 +4,8 @@
 //! written shows, and has two more elements that must stay as they were.
 
 use crate::reference::{
-    ByteOrder, ConfigAnswer, JoinAnswer, LabelAnswer, ListSection, LoadAnswer, MapAnswer,
-    SameAnswer, StrapAnswer, WriteAnswer,
+    ByteOrder, ConfigAnswer, FindAnswer, JoinAnswer, LabelAnswer, ListSection, LoadAnswer,
+    MapAnswer, SameAnswer, StrapAnswer, WriteAnswer,
 };
 
 extern "C" {
@@ -47,6 +47,15 @@ extern "C" {
         low_first: bool,
         output: *mut u8,
         output_len: usize,
+        answer: *mut u64,
+    );
+    fn tuneharbor_find(
+        older: *const u8,
+        older_len: usize,
+        newer: *const u8,
+        newer_len: usize,
+        low_first: bool,
+        address: u32,
         answer: *mut u64,
     );
     fn tuneharbor_configure(
@@ -200,6 +209,40 @@ pub fn write(
         length,
         sections,
     }
+}
+
+pub fn find(older: &[u8], newer: &[u8], order: ByteOrder, address: u32) -> FindAnswer {
+    // Safety: the slices live through the call; the answer has 6 elements.
+    let [number, place, table, offset, length, read] = answered(|answer| unsafe {
+        tuneharbor_find(
+            older.as_ptr(),
+            older.len(),
+            newer.as_ptr(),
+            newer.len(),
+            low_first(order),
+            address,
+            answer,
+        )
+    });
+    FindAnswer {
+        number,
+        place,
+        table,
+        offset,
+        length,
+        read,
+    }
+}
+
+/// The part whose offset and length `find` gives. Where no table covers the
+/// address, and after a refusal, both are 0, and the part is the older's.
+pub fn part<'a>(older: &'a [u8], newer: &'a [u8], order: ByteOrder, address: u32) -> &'a [u8] {
+    let answer = find(older, newer, order, address);
+    let table = match (answer.number, answer.table) {
+        (0, 2) => newer,
+        _ => older,
+    };
+    &table[answer.offset as usize..][..answer.length as usize]
 }
 
 pub fn configure(table: &[u8], addresses: &[u32], values: &mut [u32]) -> ConfigAnswer {

@@ -856,6 +856,23 @@ fn damage_table(
     }
 }
 
+/// A boot table of sections to be read in an order, with a generated entry,
+/// damaged once in so many times.
+fn damaged_at_times(
+    numbers: &mut Numbers,
+    regions: &Regions,
+    list: &[Section],
+    times: u64,
+    order: ByteOrder,
+) -> Vec<u8> {
+    let first_word = entry(numbers, regions);
+    let mut bytes = table_of(first_word, list, order);
+    if numbers.once_in(times) {
+        damage_table(numbers, &mut bytes, list, order);
+    }
+    bytes
+}
+
 /// A boot table to be read in an order, damaged once in so many times.
 pub fn boot_table(
     numbers: &mut Numbers,
@@ -864,12 +881,7 @@ pub fn boot_table(
     order: ByteOrder,
 ) -> Vec<u8> {
     let list = sections(numbers, regions);
-    let first_word = entry(numbers, regions);
-    let mut bytes = table_of(first_word, &list, order);
-    if numbers.once_in(times) {
-        damage_table(numbers, &mut bytes, &list, order);
-    }
-    bytes
+    damaged_at_times(numbers, regions, &list, times, order)
 }
 
 /// A case for the map, judging and loading.
@@ -936,6 +948,82 @@ pub fn join_case(numbers: &mut Numbers) -> JoinCase {
         second,
         order,
         output: numbers.bytes(size as usize),
+    }
+}
+
+// Addresses to ask for.
+
+/// A case for what stands at an address.
+#[derive(Clone, Debug)]
+pub struct FindCase {
+    pub older: Vec<u8>,
+    pub newer: Vec<u8>,
+    pub order: ByteOrder,
+    pub address: u32,
+}
+
+/// An address to ask for: mostly one of a section, often its first or its last, or
+/// one before it or past it; else the lowest, the highest or any.
+pub fn asked(numbers: &mut Numbers, lists: [&[Section]; 2]) -> u32 {
+    let random = numbers.word();
+    let anywhere = numbers.pick(&[0, 0xFFFF_FFFF, random]);
+    let all = lists.concat();
+    if all.is_empty() {
+        return anywhere;
+    }
+    let section = &all[numbers.index(all.len())];
+    let size = section.data.len() as u32;
+    let first = section.address;
+    let last = first + (size - 1);
+    match numbers.below(10) {
+        0 | 1 => first,
+        2 | 3 => last,
+        4 => first.wrapping_sub(1),
+        5 => last.wrapping_add(1),
+        6 => anywhere,
+        _ => first + numbers.below(size.into()) as u32,
+    }
+}
+
+/// A section that covers an address, as its first, its last or any, or that ends
+/// right before it or begins right past it.
+fn around(numbers: &mut Numbers, address: u32) -> Section {
+    let address = u64::from(address);
+    let size = numbers.from_to(1, 13);
+    let first = match numbers.below(8) {
+        0 | 1 => address,
+        2 | 3 => (address + 1).saturating_sub(size),
+        4 => address.saturating_sub(size),
+        5 => address + 1,
+        _ => address.saturating_sub(numbers.below(size)),
+    };
+    let first = first.min(TOP - 1);
+    let size = size.min(TOP - first);
+    Section::of_size(numbers, first as u32, size as usize)
+}
+
+/// A case for what stands at an address: in a third of the tables up to three more
+/// sections stand around the address, and one table in five is damaged.
+pub fn find_case(numbers: &mut Numbers) -> FindCase {
+    let regions = sound_map(numbers);
+    let order = numbers.order();
+    let mut lists = [(); 2].map(|()| match numbers.below(12) {
+        0 => Vec::new(),
+        _ => sections(numbers, &regions),
+    });
+    let address = asked(numbers, lists.each_ref().map(|list| &list[..]));
+    for list in &mut lists {
+        for _ in 0..numbers.pick(&[0, 0, 0, 0, 0, 0, 1, 2, 3]) {
+            let section = around(numbers, address);
+            list.insert(numbers.index(list.len() + 1), section);
+        }
+    }
+    let [older, newer] = lists.map(|list| damaged_at_times(numbers, &regions, &list, 5, order));
+    FindCase {
+        older,
+        newer,
+        order,
+        address,
     }
 }
 

@@ -5,12 +5,14 @@
 //! has records of kind 3, that walk also sees whether the sections rise or fall;
 //! if they do neither, their parts of kind 3 are sorted. The writer goes through
 //! its list twice, to judge it and to write, and writes up to four data bytes
-//! with their pads as one word.
+//! with their pads as one word. What stands at an address is found in one walk
+//! over each table, which judges the form as it goes; a second peer lets the two
+//! walks take turns.
 
 use crate::reference::{
-    ByteOrder, ConfigAnswer, JoinAnswer, LabelAnswer, ListSection, LoadAnswer, MapAnswer, Refusal,
-    SameAnswer, StrapAnswer, WriteAnswer, CONFIG_LIMIT, MAP_LIMIT, REGISTER_LIMIT, STRAP_LIMIT,
-    TABLE_LIMIT, TOP,
+    ByteOrder, ConfigAnswer, FindAnswer, JoinAnswer, LabelAnswer, ListSection, LoadAnswer,
+    MapAnswer, Refusal, SameAnswer, StrapAnswer, WriteAnswer, CONFIG_LIMIT, MAP_LIMIT,
+    REGISTER_LIMIT, STRAP_LIMIT, TABLE_LIMIT, TOP,
 };
 use std::borrow::Cow;
 use std::cell::OnceCell;
@@ -745,6 +747,139 @@ fn copy_blocks(bytes: &mut [u8], data: &[u8]) {
     if !left.is_empty() {
         rest.copy_from_slice(left);
     }
+}
+
+// What stands at an address.
+
+/// A walk over a table that looks for an address. It stands at a section, at the
+/// end word or at what is cut there.
+struct Search<'a, const LOW_FIRST: bool> {
+    table: &'a [u8],
+    at: usize,
+    /// The offset of the last section so far that covers the address, or 0.
+    covering: usize,
+    /// The bytes read of the sections so far.
+    read: u64,
+}
+
+impl<const LOW_FIRST: bool> Search<'_, LOW_FIRST> {
+    /// A walk that stands behind the entry word.
+    #[inline(always)]
+    fn new(table: &[u8]) -> Result<Search<'_, LOW_FIRST>, Refusal> {
+        if table.len() > TABLE_LIMIT {
+            return refuse(4, 0);
+        }
+        if table.len() < 4 {
+            return refuse(5, 0);
+        }
+        Ok(Search {
+            table,
+            at: 4,
+            covering: 0,
+            read: 0,
+        })
+    }
+
+    /// Goes past a section without a fault, and answers no where none stands.
+    #[inline(always)]
+    fn step(&mut self, address: u32) -> bool {
+        let Search { table, at, .. } = *self;
+        if table.len() - at < 4 {
+            return false;
+        }
+        let size = header_word::<LOW_FIRST>(table, at);
+        let next = next_section(at, size);
+        if size == 0 || next > table.len() {
+            return false;
+        }
+        let first = header_word::<LOW_FIRST>(table, at + 4);
+        if u64::from(first) + u64::from(size) > TOP {
+            return false;
+        }
+        // Below the size exactly for an address that is covered, so that one
+        // comparison tells.
+        if address.wrapping_sub(first) < size {
+            self.covering = at;
+        }
+        self.read += 8;
+        self.at = next;
+        true
+    }
+
+    /// Goes to the end word, or to the first fault.
+    #[inline(always)]
+    fn end(mut self, address: u32) -> Result<Self, Refusal> {
+        while self.step(address) {}
+        let Search { table, at, .. } = self;
+        if table.len() - at < 4 {
+            return refuse(5, at);
+        }
+        let size = header_word::<LOW_FIRST>(table, at);
+        if size > 0 {
+            let cut = next_section(at, size) > table.len();
+            return refuse(if cut { 5 } else { 8 }, at);
+        }
+        if table.len() > at + 4 {
+            return refuse(7, at + 4);
+        }
+        self.read += 4;
+        Ok(self)
+    }
+}
+
+/// One walk over the older table, and then one over the newer.
+pub fn find(older: &[u8], newer: &[u8], order: ByteOrder, address: u32) -> FindAnswer {
+    match order {
+        ByteOrder::HighFirst => find_in::<false, false>(older, newer, address),
+        ByteOrder::LowFirst => find_in::<true, false>(older, newer, address),
+    }
+}
+
+/// The two walks take turns while both have sections: a walk mostly waits for a
+/// size, which says where the next one stands.
+pub fn find_in_turns(older: &[u8], newer: &[u8], order: ByteOrder, address: u32) -> FindAnswer {
+    match order {
+        ByteOrder::HighFirst => find_in::<false, true>(older, newer, address),
+        ByteOrder::LowFirst => find_in::<true, true>(older, newer, address),
+    }
+}
+
+/// Not inlined, so that the loops of both orders are compiled alike.
+#[inline(never)]
+fn find_in<const LOW_FIRST: bool, const IN_TURNS: bool>(
+    older: &[u8],
+    newer: &[u8],
+    address: u32,
+) -> FindAnswer {
+    let mut searches = [older, newer].map(Search::<LOW_FIRST>::new);
+    if let (true, [Ok(one), Ok(two)]) = (IN_TURNS, &mut searches) {
+        while one.step(address) && two.step(address) {}
+    }
+    let mut answer = FindAnswer::default();
+    for (table, search) in [1, 2].into_iter().zip(searches) {
+        match search.and_then(|search| search.end(address)) {
+            Err(refusal) => {
+                return FindAnswer {
+                    number: refusal.number,
+                    place: refusal.place,
+                    table,
+                    ..Default::default()
+                }
+            }
+            Ok(search) => {
+                answer.read += search.read;
+                let at = search.covering;
+                if at > 0 {
+                    let size = header_word::<LOW_FIRST>(search.table, at);
+                    let skipped = address - header_word::<LOW_FIRST>(search.table, at + 4);
+                    answer.table = table;
+                    answer.offset = at as u64 + 8 + u64::from(skipped);
+                    answer.length = u64::from(size - skipped);
+                }
+            }
+        }
+    }
+    answer
 }
 
 // The configuration table.

@@ -1,8 +1,8 @@
-//! Document 01, as requests 2, 7, 8 and 10 of document 02 mend it, and request 1
-//! read once more in plain Rust: the map, the boot table, judging, loading, the
-//! join, the writer, the configuration table, the strap value and the listers'
-//! text. Addresses are looked at one by one and bytes are copied one by one;
-//! nothing here is quick.
+//! Document 01, as requests 2, 7, 8 and 10 of document 02 mend it, and requests 1
+//! and 4 read once more in plain Rust: the map, the boot table, judging, loading,
+//! the join, the writer, what stands at an address, the configuration table, the
+//! strap value and the listers' text. Addresses are looked at one by one and bytes
+//! are copied one by one; nothing here is quick.
 
 use std::collections::HashSet;
 
@@ -91,6 +91,19 @@ pub struct WriteAnswer {
     pub place: u64,
     pub length: u64,
     pub sections: u64,
+}
+
+/// What is answered for an address: the table, 1 older, 2 newer or 0 neither,
+/// offset and length of the part of it, and the bytes read of both tables. After a
+/// refusal the table is the one that is refused.
+#[derive(Clone, Copy, Debug, Default, PartialEq, Eq)]
+pub struct FindAnswer {
+    pub number: u64,
+    pub place: u64,
+    pub table: u64,
+    pub offset: u64,
+    pub length: u64,
+    pub read: u64,
 }
 
 /// What the configuration table is answered with.
@@ -627,6 +640,75 @@ pub fn write(
         sections: list.len() as u64,
         ..Default::default()
     }
+}
+
+// What stands at an address.
+
+/// The last section of a table that covers an address.
+fn last_covering<'a>(table: &Table<'a>, address: u64) -> Option<Section<'a>> {
+    let mut last = None;
+    for section in &table.sections {
+        for i in 0..section.data.len() as u64 {
+            if section.address + i == address {
+                last = Some(*section);
+            }
+        }
+    }
+    last
+}
+
+/// What stands at an address: older table, newer table, and no other refusals.
+/// The newer goes before the older. The part begins at the address's byte and
+/// ends with its section's data.
+pub fn find(older: &[u8], newer: &[u8], order: ByteOrder, address: u32) -> FindAnswer {
+    let address = u64::from(address);
+    let table_refused = |refusal: Refusal, table: u64| FindAnswer {
+        number: refusal.number,
+        place: refusal.place,
+        table,
+        ..Default::default()
+    };
+    let one = match read_table(older, order) {
+        Err(refusal) => return table_refused(refusal, 1),
+        Ok(read) => read,
+    };
+    let two = match read_table(newer, order) {
+        Err(refusal) => return table_refused(refusal, 2),
+        Ok(read) => read,
+    };
+    // The size and the address of each section, and the two end words.
+    let sections = one.sections.len() + two.sections.len();
+    let read = 8 * sections as u64 + 4 + 4;
+    for (number, table) in [(2, &two), (1, &one)] {
+        if let Some(section) = last_covering(table, address) {
+            let skipped = address - section.address;
+            return FindAnswer {
+                table: number,
+                offset: section.offset as u64 + 8 + skipped,
+                length: section.data.len() as u64 - skipped,
+                read,
+                ..Default::default()
+            };
+        }
+    }
+    FindAnswer {
+        read,
+        ..Default::default()
+    }
+}
+
+/// That part itself, or the empty part at the older's start where neither table
+/// covers the address or one of them is refused.
+pub fn part<'a>(older: &'a [u8], newer: &'a [u8], order: ByteOrder, address: u32) -> &'a [u8] {
+    let address = u64::from(address);
+    if let (Ok(one), Ok(two)) = (read_table(older, order), read_table(newer, order)) {
+        for table in [two, one] {
+            if let Some(section) = last_covering(&table, address) {
+                return &section.data[(address - section.address) as usize..];
+            }
+        }
+    }
+    &older[..0]
 }
 
 // The configuration table.

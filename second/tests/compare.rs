@@ -1,15 +1,16 @@
 //! The library and the reference on generated cases: every field of every
 //! answer and every byte of every buffer. Each refusal of each call must be hit
-//! at least a hundred times: those of judging, loading, the join and the writer
-//! in each byte order, and the join's refusals of a table for the first and for
-//! the second. A table written in the other order must be refused as often, and
-//! the same is asked of each outcome of a load under a map with kind 3 and of
-//! each kind of list that the writer is given. 6 is withdrawn and must never be
-//! answered.
+//! at least a hundred times: those of judging, loading, the join, the writer and
+//! what stands at an address in each byte order, and the refusals of one of two
+//! tables for the first and for the second. A table written in the other order
+//! must be refused as often, and the same is asked of each outcome of a load under
+//! a map with kind 3, of each kind of list that the writer is given, and of each
+//! way in which an address is covered. 6 is withdrawn and must never be answered.
 
-use second::cases::{self, ConfigCase, JoinCase, LoadCase, Numbers, WriteCase};
+use second::cases::{self, ConfigCase, FindCase, JoinCase, LoadCase, Numbers, WriteCase};
 use second::reference::{
-    ByteOrder, JoinAnswer, Kind, ListSection, WriteAnswer, CONFIG_LIMIT, TABLE_LIMIT, TOP,
+    ByteOrder, FindAnswer, JoinAnswer, Kind, ListSection, WriteAnswer, CONFIG_LIMIT, TABLE_LIMIT,
+    TOP,
 };
 use second::{calls, reference};
 use std::collections::HashMap;
@@ -19,7 +20,8 @@ const FLOOR: u64 = 100;
 /// The refusal that is withdrawn: no call answers it.
 const WITHDRAWN: u64 = 6;
 /// The refusals of judging, those of loading, those of the join that name no
-/// table, and those that name one.
+/// table, and those that name one, which are also all that there are for an
+/// address.
 const OF_JUDGING: &[usize] = &[1, 2, 4, 5, 7, 8, 9, 29];
 const OF_LOADS: &[usize] = &[1, 2, 3, 4, 5, 7, 8, 9, 29];
 const OF_JOINS: &[usize] = &[10, 11];
@@ -286,6 +288,146 @@ impl ListHits {
     }
 }
 
+/// What stood at the addresses that were asked for. Of a pair of counts the first
+/// is the older table's and the second the newer's.
+#[derive(Debug, Default)]
+struct FindHits {
+    /// The address is covered by two sections or more of the table that decides.
+    several: [u64; 2],
+    /// The section that decides is not the last of its table.
+    not_last: [u64; 2],
+    /// The newer table decides, and the older covers the address too; only the
+    /// newer covers it.
+    both: u64,
+    newer_only: u64,
+    /// The address is the first, the last or another of a section with more than
+    /// one, and the only one of a section.
+    first: u64,
+    last: u64,
+    between: u64,
+    only: u64,
+    /// The section that decides has none, one, two and three pads.
+    pads: [u64; 4],
+    /// The address is the lowest of all, and the highest.
+    lowest: u64,
+    highest: u64,
+    /// The address is another one of a section that ends at the top.
+    to_top: u64,
+    /// Neither table covers the address, which is one before a section, one past
+    /// it, and so little past it that a pad stands there.
+    before: u64,
+    past: u64,
+    on_pads: u64,
+    /// Only the older table has no section, only the newer, both.
+    empty: [u64; 3],
+    /// The table is refused, and the other has no fault and covers the address.
+    other_covers: [u64; 2],
+    /// The table is refused, and a section before the fault covers the address.
+    behind: [u64; 2],
+    /// Both tables have a fault.
+    both_refused: u64,
+}
+
+impl FindHits {
+    fn add(&mut self, case: &FindCase, answer: &FindAnswer) {
+        let address = u64::from(case.address);
+        let tables = [&case.older, &case.newer];
+        let read = tables.map(|table| reference::read_table(table, case.order));
+        let end = |section: &reference::Section| section.address + section.data.len() as u64;
+        let covers =
+            |section: &&reference::Section| section.address <= address && address < end(section);
+        let covered = |table: &reference::Table| table.sections.iter().any(|one| covers(&one));
+        let [Ok(older), Ok(newer)] = &read else {
+            let refused = answer.table as usize - 1;
+            let other = &read[1 - refused];
+            self.other_covers[refused] += u64::from(other.as_ref().is_ok_and(covered));
+            // The sections before the fault are a table with a zero word of its own.
+            // Before 7 it has that word already.
+            let mut before = match answer.number {
+                4 => Vec::new(),
+                _ => tables[refused][..answer.place as usize].to_vec(),
+            };
+            if answer.number != 7 {
+                before.extend([0; 4]);
+            }
+            let before = reference::read_table(&before, case.order);
+            self.behind[refused] += u64::from(before.is_ok_and(|table| covered(&table)));
+            self.both_refused += u64::from(read.iter().all(Result::is_err));
+            return;
+        };
+        match [older, newer].map(|table| table.sections.is_empty()) {
+            [true, false] => self.empty[0] += 1,
+            [false, true] => self.empty[1] += 1,
+            [true, true] => self.empty[2] += 1,
+            [false, false] => {}
+        }
+        if answer.table == 0 {
+            let any = |test: &dyn Fn(&reference::Section) -> bool| {
+                let mut all = older.sections.iter().chain(&newer.sections);
+                u64::from(all.any(test))
+            };
+            self.before += any(&|section| address + 1 == section.address);
+            self.past += any(&|section| address == end(section));
+            self.on_pads += any(&|section| {
+                let past = end(section);
+                past <= address && address < past + section.pads.len() as u64
+            });
+            return;
+        }
+        let decides = answer.table as usize - 1;
+        let sections = &[older, newer][decides].sections;
+        let covering: Vec<_> = sections.iter().filter(covers).collect();
+        let section = covering[covering.len() - 1];
+        self.several[decides] += u64::from(covering.len() > 1);
+        let last = &sections[sections.len() - 1];
+        self.not_last[decides] += u64::from(section.offset != last.offset);
+        self.both += u64::from(decides == 1 && covered(older));
+        self.newer_only += u64::from(decides == 1 && !covered(older));
+        let is_first = address == section.address;
+        let is_last = address + 1 == end(section);
+        *match (is_first, is_last) {
+            (true, false) => &mut self.first,
+            (false, true) => &mut self.last,
+            (false, false) => &mut self.between,
+            (true, true) => &mut self.only,
+        } += 1;
+        self.pads[section.pads.len()] += 1;
+        self.lowest += u64::from(address == 0);
+        self.highest += u64::from(address == TOP - 1);
+        self.to_top += u64::from(end(section) == TOP && !is_last);
+    }
+
+    fn close(&self, name: &str, full: bool) {
+        println!("{name}, addresses: {self:?}");
+        let mut all = vec![
+            self.both,
+            self.newer_only,
+            self.first,
+            self.last,
+            self.between,
+            self.only,
+            self.lowest,
+            self.highest,
+            self.to_top,
+            self.before,
+            self.past,
+            self.on_pads,
+            self.both_refused,
+        ];
+        for pair in [self.several, self.not_last, self.other_covers, self.behind] {
+            all.extend(pair);
+        }
+        all.extend(self.pads);
+        all.extend(self.empty);
+        for times in all {
+            assert!(
+                times >= FLOOR || !full,
+                "{name}: too few addresses of a kind"
+            );
+        }
+    }
+}
+
 /// The counts of the calls over boot tables of one order.
 #[derive(Default)]
 struct TableHits {
@@ -296,6 +438,9 @@ struct TableHits {
     lists: ListHits,
     /// By the table that the answer names: none, the first, the second.
     join: [Hits; 3],
+    /// By the table that the answer names: none, the older, the newer.
+    find: [Hits; 3],
+    finds: FindHits,
     /// Refused tables that were written in the other order: read in it they are
     /// well-formed, with more than one section, since one size word alone may
     /// have been turned.
@@ -305,6 +450,10 @@ struct TableHits {
 impl TableHits {
     fn add_join(&mut self, answer: &JoinAnswer) {
         self.join[answer.table as usize].add(answer.number);
+    }
+
+    fn add_find(&mut self, answer: &FindAnswer) {
+        self.find[answer.table as usize].add(answer.number);
     }
 
     fn close(&self, name: &str, full: bool) {
@@ -321,6 +470,14 @@ impl TableHits {
             hits.close(&name, OF_JOINED, full);
             assert_eq!(hits.0[0], 0, "{name}: an acceptance names no table");
         }
+        for (table, hits) in self.find.iter().enumerate() {
+            let name = format!("{name}, find, table {table}");
+            // A refusal names a table.
+            let refusals = if table == 0 { &[] } else { OF_JOINED };
+            hits.close(&name, refusals, full);
+            assert!(hits.0[0] >= FLOOR || !full, "{name}: too few accepted");
+        }
+        self.finds.close(name, full);
         println!("{name}, written in the other order: {}", self.turned);
         assert!(
             self.turned >= FLOOR || !full,
@@ -450,6 +607,35 @@ fn compare_write(case: &WriteCase, hits: &mut [TableHits; 2]) {
     hits.lists.add(case, &answer);
 }
 
+fn compare_find(case: &FindCase, hits: &mut [TableHits; 2]) {
+    let FindCase {
+        older,
+        newer,
+        order,
+        address,
+    } = case;
+    let (order, address) = (*order, *address);
+    let lent_older = older.clone();
+    let lent_newer = newer.clone();
+    let answer = calls::find(&lent_older, &lent_newer, order, address);
+    let expected = reference::find(older, newer, order, address);
+    assert_eq!(answer, expected, "what stands at the address of {case:?}");
+    // The part has the same bytes, and it is the same part of the same table.
+    let part = calls::part(&lent_older, &lent_newer, order, address);
+    let expected = reference::part(&lent_older, &lent_newer, order, address);
+    assert_eq!(part, expected, "the part of {case:?}");
+    assert_eq!(
+        part.as_ptr_range(),
+        expected.as_ptr_range(),
+        "where the part of {case:?} stands"
+    );
+    assert_eq!(&lent_older, older, "the older table is only read");
+    assert_eq!(&lent_newer, newer, "the newer table is only read");
+    let hits = &mut hits[order as usize];
+    hits.add_find(&answer);
+    hits.finds.add(case, &answer);
+}
+
 fn compare_config(case: &ConfigCase, hits: &mut Hits) {
     let ConfigCase {
         table,
@@ -495,8 +681,8 @@ fn compare_strap(value: u32, other: u32, strict: bool, hits: &mut Hits) {
     hits.add(answer.number);
 }
 
-/// Tables at and over the boot table's limit, which no case of `load_case` and
-/// `join_case` reaches. One large buffer serves all of them, and the buffers
+/// Tables at and over the boot table's limit, which no case of `load_case`,
+/// `join_case` and `find_case` reaches. One large buffer serves all of them, and the buffers
 /// that are lent stay short.
 fn compare_large(numbers: &mut Numbers, order: ByteOrder, hits: &mut TableHits) {
     let map = cases::map(&[(1, 0x0080_0000, 16)]);
@@ -541,6 +727,21 @@ fn compare_large(numbers: &mut Numbers, order: ByteOrder, hits: &mut TableHits) 
     assert_eq!(memory, before);
     hits.load.add(answer.number);
 
+    // Addresses at the edges of that section and in it.
+    let any = numbers.below(TABLE_LIMIT as u64 - 16) as u32;
+    for skipped in [0, 1, any, TABLE_LIMIT as u32 - 17, TABLE_LIMIT as u32 - 16] {
+        let address = 0x1000_0000 + skipped;
+        for (older, newer) in [(&large, &small), (&small, &large)] {
+            let answer = calls::find(older, newer, order, address);
+            assert_eq!(answer, reference::find(older, newer, order, address));
+            assert_eq!((answer.number, answer.read), (0, 24));
+            let part = calls::part(older, newer, order, address);
+            let expected = reference::part(older, newer, order, address);
+            assert_eq!(part.as_ptr_range(), expected.as_ptr_range());
+            hits.add_find(&answer);
+        }
+    }
+
     // 4: over the limit by 1 to 64 bytes, whatever the bytes are.
     large.extend([0; 64]);
     for _ in 0..120 {
@@ -565,6 +766,13 @@ fn compare_large(numbers: &mut Numbers, order: ByteOrder, hits: &mut TableHits) 
             assert_eq!(lent, before);
             assert_eq!((answer.number, answer.table), (4, table));
             hits.add_join(&answer);
+            let answer = calls::find(pair[0], pair[1], order, 0x0080_0004);
+            let expected = reference::find(pair[0], pair[1], order, 0x0080_0004);
+            assert_eq!(answer, expected);
+            assert_eq!((answer.number, answer.table), (4, table));
+            let part = calls::part(pair[0], pair[1], order, 0x0080_0004);
+            assert_eq!(part.as_ptr_range(), pair[0][..0].as_ptr_range());
+            hits.add_find(&answer);
         }
     }
 }
@@ -597,15 +805,17 @@ fn generated_cases() {
     let mut tables = <[TableHits; 2]>::default();
     let mut others = Hits::default();
 
-    // Of the cases half are loads, a sixth joins and a sixth lists to write; the
-    // rest is shared.
-    let [loads, joins, writes, configs] = [count / 2, count / 6, count / 6, count / 10];
+    // Of the cases a third are loads, a sixth joins, a sixth lists to write and a
+    // sixth addresses; the rest is shared.
+    let sixth = count / 6;
+    let [loads, joins, writes, finds, configs] = [count / 3, sixth, sixth, sixth, count / 10];
     let shares = [
         loads,
         joins,
         writes,
+        finds,
         configs,
-        count - loads - joins - writes - configs,
+        count - loads - joins - writes - finds - configs,
     ];
     let mut numbers = Numbers::new(seed, 1);
     for _ in 0..shares[0] {
@@ -619,13 +829,17 @@ fn generated_cases() {
     for _ in 0..shares[2] {
         compare_write(&cases::write_case(&mut numbers), &mut tables);
     }
-    let mut numbers = Numbers::new(seed, 3);
+    let mut numbers = Numbers::new(seed, 7);
     for _ in 0..shares[3] {
+        compare_find(&cases::find_case(&mut numbers), &mut tables);
+    }
+    let mut numbers = Numbers::new(seed, 3);
+    for _ in 0..shares[4] {
         compare_config(&cases::config_case(&mut numbers), &mut others);
     }
     let configures = others.0[0];
     let mut numbers = Numbers::new(seed, 4);
-    for _ in 0..shares[4] {
+    for _ in 0..shares[5] {
         let value = cases::strap_value(&mut numbers);
         // At times the other value differs in one bit only.
         let other = match numbers.below(2) {
@@ -645,8 +859,11 @@ fn generated_cases() {
     let loads = tables.each_ref().map(|hits| hits.load.0[0]);
     let joins = tables.each_ref().map(|hits| hits.join[0].0[0]);
     let writes = tables.each_ref().map(|hits| hits.write.0[0]);
+    let finds = tables
+        .each_ref()
+        .map(|hits| hits.find.iter().map(|hits| hits.0[0]).sum());
     println!("seed {seed}, {count} cases; accepted, boot tables in each order:");
-    println!("load {loads:?}, join {joins:?}, write {writes:?}");
+    println!("load {loads:?}, join {joins:?}, write {writes:?}, find {finds:?}");
     println!("configure {configures}, strap {straps}");
     println!("how often each number was answered, from 0 on:");
     for order in ByteOrder::BOTH {
@@ -662,8 +879,10 @@ fn generated_cases() {
             (joins[1], shares[1] / 2),
             (writes[0], shares[2] / 2),
             (writes[1], shares[2] / 2),
-            (configures, shares[3]),
-            (straps, shares[4]),
+            (finds[0], shares[3] / 2),
+            (finds[1], shares[3] / 2),
+            (configures, shares[4]),
+            (straps, shares[5]),
         ] {
             assert!(times >= share / 10, "{times} of {share} were accepted");
         }

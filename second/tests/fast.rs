@@ -1,7 +1,7 @@
 //! The benchmark's peer and the reference on generated cases: every field of
 //! every answer and every byte of every buffer, so that the peer is right.
 
-use second::cases::{self, LoadCase, Numbers, WriteCase};
+use second::cases::{self, FindCase, LoadCase, Numbers, WriteCase};
 use second::reference::{ByteOrder, ListSection, STRAP_LIMIT, TABLE_LIMIT, TOP};
 use second::{calls, fast, reference};
 
@@ -317,6 +317,74 @@ fn writing_every_small_size() {
     }
 }
 
+/// Compares what stands at an address, and counts its number in the case's order.
+fn compare_find(case: &FindCase, hits: &mut [Hits; 2]) {
+    let FindCase {
+        older,
+        newer,
+        order,
+        address,
+    } = case;
+    let answer = reference::find(older, newer, *order, *address);
+    for find in [fast::find, fast::find_in_turns] {
+        assert_eq!(
+            find(older, newer, *order, *address),
+            answer,
+            "what stands at the address of {case:?}"
+        );
+    }
+    hits[*order as usize][answer.number as usize] += 1;
+}
+
+#[test]
+fn finding() {
+    let mut numbers = Numbers::new(cases::seed(), 84);
+    let mut hits = [[0; 30]; 2];
+    for _ in 0..CASES {
+        compare_find(&cases::find_case(&mut numbers), &mut hits);
+    }
+    for hits in &hits {
+        all_hit(hits, &[0, 5, 7, 8]);
+    }
+}
+
+/// Two tables of different and of equal counts of sections, from none to 40, which
+/// cover the address or begin right past it; at times a fault stands behind them.
+#[test]
+fn finding_among_different_counts() {
+    let mut numbers = Numbers::new(cases::seed(), 85);
+    let mut hits = [[0; 30]; 2];
+    for counts in 0..41 * 41 {
+        for order in ByteOrder::BOTH {
+            let address = numbers.pick(&[1, 0x0080_0000, 0xFFFF_FFFE]);
+            let [mut older, mut newer] = [counts / 41, counts % 41].map(|count| {
+                let list: Vec<(u32, &[u8])> = (0..count)
+                    .map(|_| address - 1 + numbers.below(3) as u32)
+                    .map(|first| (first.min(0xFFFF_FFFE), &[7, 8][..]))
+                    .collect();
+                cases::table(numbers.word(), &list, order)
+            });
+            for table in [&mut older, &mut newer] {
+                if numbers.once_in(6) {
+                    let (bytes, _, _) = cases::fault(&mut numbers, order);
+                    table.truncate(table.len() - 4);
+                    table.extend(bytes);
+                }
+            }
+            let case = FindCase {
+                older,
+                newer,
+                order,
+                address,
+            };
+            compare_find(&case, &mut hits);
+        }
+    }
+    for hits in &hits {
+        all_hit(hits, &[0, 5, 7, 8]);
+    }
+}
+
 #[test]
 fn configuring() {
     let mut numbers = Numbers::new(cases::seed(), 73);
@@ -381,7 +449,8 @@ fn straps() {
     all_hit(&hits, &[0, 18, 19]);
 }
 
-/// Tables and joins at the limit and over it; no generated case is so long.
+/// Tables and joins at the limit and over it, and what stands in such tables; no
+/// generated case is so long.
 #[test]
 fn at_the_limit() {
     let map = cases::map(&[(1, 0, 16)]);
@@ -401,6 +470,18 @@ fn at_the_limit() {
                 "loading {size} data bytes"
             );
             assert_eq!(memory, expected, "memory with {size} data bytes");
+            let small = cases::table(0, &[(1, &[9])], order);
+            for address in [0, 1, size as u32 - 1, size as u32] {
+                for (older, newer) in [(&table, &small), (&small, &table), (&table, &table)] {
+                    for find in [fast::find, fast::find_in_turns] {
+                        assert_eq!(
+                            find(older, newer, order, address),
+                            reference::find(older, newer, order, address),
+                            "address {address} in {size} data bytes"
+                        );
+                    }
+                }
+            }
         }
         let first = cases::table(1, &[(0, &vec![8; TABLE_LIMIT / 2])], order);
         for less in [8, 12, 24, 28] {

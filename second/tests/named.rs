@@ -1,8 +1,8 @@
 //! Cases by name: the bench cards, what students write first, and bad inputs
 //! one by one. Expected values are written by hand from document 01 as requests
-//! 2, 7, 8 and 10 of document 02 mend it and from request 1, and both the library
-//! and the reference must give them. Cases over boot tables are run in both byte
-//! orders: cards 1 to 3 high first, with `p_and_q_low_first` and
+//! 2, 7, 8 and 10 of document 02 mend it and from requests 1 and 4, and both the
+//! library and the reference must give them. Cases over boot tables are run in both
+//! byte orders: cards 1 to 3 high first, with `p_and_q_low_first` and
 //! `p_and_q_joined_low_first` as their counterparts low first.
 
 use second::cases::{
@@ -11,8 +11,8 @@ use second::cases::{
 };
 use second::reference::ByteOrder::{self, HighFirst, LowFirst};
 use second::reference::{
-    ConfigAnswer, JoinAnswer, LabelAnswer, ListSection, LoadAnswer, MapAnswer, SameAnswer,
-    StrapAnswer, WriteAnswer, TABLE_LIMIT,
+    ConfigAnswer, FindAnswer, JoinAnswer, LabelAnswer, ListSection, LoadAnswer, MapAnswer,
+    SameAnswer, StrapAnswer, WriteAnswer, TABLE_LIMIT,
 };
 use second::{calls, reference};
 
@@ -62,6 +62,8 @@ type Judge = fn(&[u8], &[u8], ByteOrder) -> LoadAnswer;
 type Load = fn(&[u8], &[u8], ByteOrder, &mut [u8]) -> LoadAnswer;
 type Join = fn(&[u8], &[u8], ByteOrder, &mut [u8]) -> JoinAnswer;
 type Write = fn(u32, &[ListSection], &[u8], ByteOrder, &mut [u8]) -> WriteAnswer;
+type Find = fn(&[u8], &[u8], ByteOrder, u32) -> FindAnswer;
+type Part = for<'a> fn(&'a [u8], &'a [u8], ByteOrder, u32) -> &'a [u8];
 type Configure = fn(&[u8], &[u32], &mut [u32]) -> ConfigAnswer;
 
 const LOADS: [(&str, Judge, Load); 2] = [
@@ -70,6 +72,10 @@ const LOADS: [(&str, Judge, Load); 2] = [
 ];
 const JOINS: [(&str, Join); 2] = [("library", calls::join), ("reference", reference::join)];
 const WRITES: [(&str, Write); 2] = [("library", calls::write), ("reference", reference::write)];
+const FINDS: [(&str, Find, Part); 2] = [
+    ("library", calls::find, calls::part),
+    ("reference", reference::find, reference::part),
+];
 const CONFIGURES: [(&str, Configure); 2] = [
     ("library", calls::configure),
     ("reference", reference::configure),
@@ -261,6 +267,89 @@ fn write_refuses((list, data): (&[ListSection], &[u8]), output: &[u8], number: u
     for order in ByteOrder::BOTH {
         let expected = write_refused(number, place);
         write_gives(7, (list, data), order, output, expected, output);
+    }
+}
+
+/// What both calls for an address give: the answer, and the part of a table that
+/// must stand where it stands there.
+#[track_caller]
+fn find_gives(
+    (older, newer): (&[u8], &[u8]),
+    order: ByteOrder,
+    address: u32,
+    expected: FindAnswer,
+    part: &[u8],
+) {
+    for (name, find, find_part) in FINDS {
+        let answer = find(older, newer, order, address);
+        assert_eq!(answer, expected, "{name}, {address:08x}, {order:?}");
+        let found = find_part(older, newer, order, address);
+        assert_eq!(
+            found.as_ptr_range(),
+            part.as_ptr_range(),
+            "{name}, part, {address:08x}, {order:?}"
+        );
+    }
+}
+
+/// These bytes stand at an address, in table 1 or 2 at an offset.
+#[track_caller]
+fn stands(
+    (older, newer): (&[u8], &[u8]),
+    order: ByteOrder,
+    address: u32,
+    (table, offset, bytes): (u64, u64, &[u8]),
+    read: u64,
+) {
+    let expected = FindAnswer {
+        number: 0,
+        place: 0,
+        table,
+        offset,
+        length: bytes.len() as u64,
+        read,
+    };
+    let named = if table == 1 { older } else { newer };
+    let part = &named[offset as usize..][..bytes.len()];
+    assert!(part == bytes, "the bytes of the case, {address:08x}");
+    find_gives((older, newer), order, address, expected, part);
+}
+
+/// Neither table covers an address.
+#[track_caller]
+fn nothing_stands((older, newer): (&[u8], &[u8]), order: ByteOrder, addresses: &[u32], read: u64) {
+    let expected = FindAnswer {
+        number: 0,
+        place: 0,
+        table: 0,
+        offset: 0,
+        length: 0,
+        read,
+    };
+    for address in addresses {
+        find_gives((older, newer), order, *address, expected, &older[..0]);
+    }
+}
+
+/// A refusal of table 1 or 2, whatever the address is.
+#[track_caller]
+fn find_refuses(
+    (older, newer): (&[u8], &[u8]),
+    order: ByteOrder,
+    number: u64,
+    place: u64,
+    table: u64,
+) {
+    let expected = FindAnswer {
+        number,
+        place,
+        table,
+        offset: 0,
+        length: 0,
+        read: 0,
+    };
+    for address in [0x0080_0002, 0x0080_0004, 0x0070_0000, 0, 0xFFFF_FFFF] {
+        find_gives((older, newer), order, address, expected, &older[..0]);
     }
 }
 
@@ -2082,6 +2171,525 @@ fn lists_whose_tables_are_over_2_32_bytes() {
         // A bad section behind it all.
         long.extend(list(&[(0, 65_528, 1)]));
         write_refuses((&long, &data), &[0xEE; 64], 20, count as u64 + 1);
+    }
+}
+
+// What stands at an address.
+
+#[test]
+fn what_stands_in_p_and_then_q() {
+    for order in ByteOrder::BOTH {
+        let pair = (&p(order)[..], &q(order)[..]);
+        stands(pair, order, 0x0080_0002, (1, 12, &[0xA1, 0xA2, 0xA3]), 24);
+        stands(pair, order, 0x0080_0003, (1, 13, &[0xA2, 0xA3]), 24);
+        // P covers this one too.
+        stands(pair, order, 0x0080_0004, (2, 12, &[0xB7]), 24);
+        let others = [0x0080_0000, 0x0080_0001, 0x0080_0005, 0x0080_0006];
+        nothing_stands(pair, order, &others, 24);
+        nothing_stands(pair, order, &[0, 0x0000_8002, 0xFFFF_FFFF], 24);
+    }
+}
+
+#[test]
+fn what_stands_in_q_and_then_p() {
+    for order in ByteOrder::BOTH {
+        let pair = (&q(order)[..], &p(order)[..]);
+        stands(pair, order, 0x0080_0002, (2, 12, &[0xA1, 0xA2, 0xA3]), 24);
+        stands(pair, order, 0x0080_0003, (2, 13, &[0xA2, 0xA3]), 24);
+        stands(pair, order, 0x0080_0004, (2, 14, &[0xA3]), 24);
+        nothing_stands(pair, order, &[0x0080_0001, 0x0080_0005], 24);
+    }
+}
+
+#[test]
+fn one_table_as_older_and_newer() {
+    for order in ByteOrder::BOTH {
+        let pair = (&p(order)[..], &p(order)[..]);
+        stands(pair, order, 0x0080_0003, (2, 13, &[0xA2, 0xA3]), 24);
+        nothing_stands(pair, order, &[0x0080_0001, 0x0080_0005], 24);
+    }
+}
+
+#[test]
+fn what_stands_in_a_join() {
+    for order in ByteOrder::BOTH {
+        let none = table(0x0080_0002, &[], order);
+        // The data stands at 12 and at 24.
+        let p_q = [&q(order)[..4], &p(order)[4..16], &q(order)[4..]].concat();
+        let q_p = [&p(order)[..4], &q(order)[4..16], &p(order)[4..]].concat();
+        for (older, newer, named) in [(&p_q, &none, 1), (&none, &p_q, 2)] {
+            let pair = (&older[..], &newer[..]);
+            stands(pair, order, 0x0080_0003, (named, 13, &[0xA2, 0xA3]), 24);
+            stands(pair, order, 0x0080_0004, (named, 24, &[0xB7]), 24);
+            nothing_stands(pair, order, &[0x0080_0001, 0x0080_0005], 24);
+        }
+        for (older, newer, named) in [(&q_p, &none, 1), (&none, &q_p, 2)] {
+            let pair = (&older[..], &newer[..]);
+            stands(pair, order, 0x0080_0003, (named, 25, &[0xA2, 0xA3]), 24);
+            stands(pair, order, 0x0080_0004, (named, 26, &[0xA3]), 24);
+            nothing_stands(pair, order, &[0x0080_0001, 0x0080_0005], 24);
+        }
+    }
+}
+
+#[test]
+fn the_last_section_that_covers_an_address() {
+    for order in ByteOrder::BOTH {
+        let shared = table(
+            0,
+            &[
+                (0x0080_0004, &[0x11, 0x12, 0x13, 0x14]),
+                (0x0080_0002, &[0x21, 0x22, 0x23]),
+                (0x0080_0006, &[0x31]),
+                (0x0080_0004, &[0x41]),
+            ],
+            order,
+        );
+        let none = table(0, &[], order);
+        // Q covers 0x00800004, and is the older where it stands beside the table.
+        for (older, newer, named, read) in [
+            (&shared[..], &none[..], 1, 40),
+            (&none, &shared, 2, 40),
+            (q(order), &shared, 2, 48),
+        ] {
+            let pair = (older, newer);
+            stands(
+                pair,
+                order,
+                0x0080_0002,
+                (named, 24, &[0x21, 0x22, 0x23]),
+                read,
+            );
+            stands(pair, order, 0x0080_0003, (named, 25, &[0x22, 0x23]), read);
+            stands(pair, order, 0x0080_0004, (named, 48, &[0x41]), read);
+            stands(
+                pair,
+                order,
+                0x0080_0005,
+                (named, 13, &[0x12, 0x13, 0x14]),
+                read,
+            );
+            stands(pair, order, 0x0080_0006, (named, 36, &[0x31]), read);
+            stands(pair, order, 0x0080_0007, (named, 15, &[0x14]), read);
+            nothing_stands(pair, order, &[0x0080_0001, 0x0080_0008], read);
+        }
+        // Three equal sections.
+        let equal = [(0x0080_0004, &[0x51, 0x52][..]); 3];
+        let equal = table(0, &equal, order);
+        stands((&equal, &none), order, 0x0080_0005, (1, 37, &[0x52]), 32);
+    }
+}
+
+#[test]
+fn the_newer_table_goes_before_the_older() {
+    for order in ByteOrder::BOTH {
+        let data: Vec<u8> = (0x50..0x60).collect();
+        let older = table(0, &[(0x0070_0000, &[1]), (0x0080_0000, &data)], order);
+        // What covers comes first in the newer, and last in the older.
+        let newer = table(
+            0,
+            &[
+                (0x0080_0008, &[0x81, 0x82, 0x83]),
+                (0x0080_0004, &[0xB7]),
+                (0x0070_0001, &[2]),
+            ],
+            order,
+        );
+        let pair = (&older[..], &newer[..]);
+        for i in 0..16 {
+            let address = 0x0080_0000 + i;
+            let expected: (u64, u64, &[u8]) = match i {
+                4 => (2, 24, &[0xB7]),
+                8 => (2, 12, &[0x81, 0x82, 0x83]),
+                9 => (2, 13, &[0x82, 0x83]),
+                10 => (2, 14, &[0x83]),
+                // To the section's end, also over addresses that the newer covers.
+                _ => (1, 24 + u64::from(i), &data[i as usize..]),
+            };
+            stands(pair, order, address, expected, 48);
+        }
+        stands(pair, order, 0x0070_0000, (1, 12, &[1]), 48);
+        stands(pair, order, 0x0070_0001, (2, 36, &[2]), 48);
+        nothing_stands(pair, order, &[0x0070_0002, 0x0080_0010], 48);
+    }
+}
+
+#[test]
+fn a_part_ends_with_its_sections_data() {
+    for order in ByteOrder::BOTH {
+        let none = table(0, &[], order);
+        // Sections that touch, in addresses and in the table.
+        let touching = table(
+            0,
+            &[
+                (0x0080_0000, &[1, 2, 3, 4]),
+                (0x0080_0004, &[5, 6, 7, 8]),
+                (0x007F_FFFC, &[9, 10, 11, 12]),
+            ],
+            order,
+        );
+        let pair = (&touching[..], &none[..]);
+        stands(pair, order, 0x0080_0002, (1, 14, &[3, 4]), 32);
+        stands(pair, order, 0x0080_0003, (1, 15, &[4]), 32);
+        stands(pair, order, 0x0080_0004, (1, 24, &[5, 6, 7, 8]), 32);
+        stands(pair, order, 0x007F_FFFF, (1, 39, &[12]), 32);
+        // A later section over the middle of an earlier one: the part of the earlier
+        // goes on under it.
+        let under = table(
+            0,
+            &[
+                (0x0080_0000, &[1, 2, 3, 4, 5, 6, 7, 8]),
+                (0x0080_0003, &[9, 10]),
+            ],
+            order,
+        );
+        let pair = (&none[..], &under[..]);
+        let all: &[u8] = &[1, 2, 3, 4, 5, 6, 7, 8];
+        stands(pair, order, 0x0080_0000, (2, 12, all), 24);
+        stands(pair, order, 0x0080_0002, (2, 14, &all[2..]), 24);
+        stands(pair, order, 0x0080_0003, (2, 28, &[9, 10]), 24);
+        stands(pair, order, 0x0080_0004, (2, 29, &[10]), 24);
+        stands(pair, order, 0x0080_0005, (2, 17, &all[5..]), 24);
+    }
+}
+
+#[test]
+fn pads_are_not_in_the_part() {
+    for order in ByteOrder::BOTH {
+        let none = table(0, &[], order);
+        for size in 1..=9u32 {
+            let data: Vec<u8> = (1..=size as u8).collect();
+            let pads = &[0xFF; 3][..(size.next_multiple_of(4) - size) as usize];
+            let padded = padded_table(0, &[(0x0080_0000, &data, pads)], order);
+            for (older, newer, named) in [(&padded, &none, 1), (&none, &padded, 2)] {
+                let pair = (&older[..], &newer[..]);
+                for i in 0..size {
+                    let expected = (named, 12 + u64::from(i), &data[i as usize..]);
+                    stands(pair, order, 0x0080_0000 + i, expected, 16);
+                }
+                // No pad stands at an address.
+                let past = [0, 1, 2, 3].map(|i| 0x0080_0000 + size + i);
+                nothing_stands(pair, order, &past, 16);
+            }
+        }
+    }
+}
+
+#[test]
+fn the_lowest_and_the_highest_address() {
+    for order in ByteOrder::BOTH {
+        let lowest = table(5, &[(0, &[0xA0])], order);
+        let highest = table(5, &[(0xFFFF_FFFF, &[0xAF])], order);
+        for (older, newer, low, high) in [(&lowest, &highest, 1, 2), (&highest, &lowest, 2, 1)] {
+            let pair = (&older[..], &newer[..]);
+            stands(pair, order, 0, (low, 12, &[0xA0]), 24);
+            stands(pair, order, 0xFFFF_FFFF, (high, 12, &[0xAF]), 24);
+            nothing_stands(pair, order, &[1, 0x8000_0000, 0xFFFF_FFFE], 24);
+        }
+        // Four bytes from the lowest, and three up to the highest.
+        let both = table(5, &[(0, &[1, 2, 3, 4]), (0xFFFF_FFFD, &[5, 6, 7])], order);
+        let none = table(0, &[], order);
+        for (older, newer, named) in [(&both, &none, 1), (&none, &both, 2)] {
+            let pair = (&older[..], &newer[..]);
+            stands(pair, order, 0, (named, 12, &[1, 2, 3, 4]), 24);
+            stands(pair, order, 3, (named, 15, &[4]), 24);
+            stands(pair, order, 0xFFFF_FFFD, (named, 24, &[5, 6, 7]), 24);
+            stands(pair, order, 0xFFFF_FFFE, (named, 25, &[6, 7]), 24);
+            stands(pair, order, 0xFFFF_FFFF, (named, 26, &[7]), 24);
+            nothing_stands(pair, order, &[4, 5, 0x7FFF_FFFF, 0xFFFF_FFFC], 24);
+        }
+    }
+}
+
+#[test]
+fn what_stands_in_tables_without_sections() {
+    for order in ByteOrder::BOTH {
+        // An entry covers nothing.
+        let none = table(0x0080_0002, &[], order);
+        let other = table(0xFFFF_FFFF, &[], order);
+        let addresses = [0, 0x0080_0002, 0x0080_0004, 0xFFFF_FFFF];
+        nothing_stands((&none, &other), order, &addresses, 8);
+        nothing_stands((&none, &none), order, &addresses, 8);
+        let beside = [0, 0x0080_0001, 0x0080_0005, 0xFFFF_FFFF];
+        for none in [&none, &other] {
+            let part: &[u8] = &[0xA1, 0xA2, 0xA3];
+            stands((p(order), none), order, 0x0080_0002, (1, 12, part), 16);
+            stands((none, p(order)), order, 0x0080_0002, (2, 12, part), 16);
+            nothing_stands((p(order), none), order, &beside, 16);
+            nothing_stands((none, p(order)), order, &beside, 16);
+        }
+    }
+}
+
+#[test]
+fn no_entry_no_data_and_no_pad_decides() {
+    for order in ByteOrder::BOTH {
+        // P's words with every other byte 0xFF, and with every other byte zero.
+        for byte in [0xFF, 0] {
+            let mut other = *p(order);
+            other[..4].fill(byte);
+            other[12..16].fill(byte);
+            let pair = (&other[..], &q(order)[..]);
+            stands(pair, order, 0x0080_0002, (1, 12, &[byte; 3]), 24);
+            stands(pair, order, 0x0080_0003, (1, 13, &[byte; 2]), 24);
+            stands(pair, order, 0x0080_0004, (2, 12, &[0xB7]), 24);
+            nothing_stands(pair, order, &[0x0080_0001, 0x0080_0005, 0, 0xFFFF_FFFF], 24);
+        }
+        // Data that would itself be a section for the address.
+        let data = [
+            header_word(4, order),
+            header_word(0x0080_0004, order),
+            [7; 4],
+        ]
+        .concat();
+        let nested = table(0x0080_0004, &[(0x0070_0000, &data)], order);
+        let pair = (&nested[..], &nested[..]);
+        nothing_stands(pair, order, &[0x0080_0004], 24);
+        stands(pair, order, 0x0070_0008, (2, 20, &[7; 4]), 24);
+    }
+}
+
+#[test]
+fn a_fault_in_the_older_or_the_newer_table() {
+    for order in ByteOrder::BOTH {
+        let top = padded_table(0, &[(0xFFFF_FFFF, &[1, 2], &[7, 0xFF])], order);
+        let longer = [&p_01(order)[..], &[0, 0]].concat();
+        let one_more = [&p(order)[..], &[1]].concat();
+        // In one section 5 comes before 8.
+        let mut cut_at_top = *p(order);
+        cut_at_top[4..12].fill(0xFF);
+        // The sections before the fault cover the addresses that are asked for.
+        let covering: (u32, &[u8]) = (0x0080_0000, &[1, 2, 3, 4, 5, 6, 7, 8]);
+        let behind = table(0, &[covering, (0xFFFF_FFFF, &[2, 3])], order);
+        let cut_behind = table(0, &[covering, (0x0080_0000, &[2, 3])], order);
+        let before = table(0, &[(0xFFFF_FFFF, &[2, 3]), covering], order);
+        let stopped = table(0, &[covering], order);
+        let faults: [(&[u8], u64, u64); 17] = [
+            (&[], 5, 0),
+            (&p(order)[..3], 5, 0),
+            (&p(order)[..4], 5, 4),
+            (&p(order)[..7], 5, 4),
+            (&p(order)[..8], 5, 4),
+            (&p(order)[..15], 5, 4),
+            (&p(order)[..16], 5, 16),
+            (&p(order)[..19], 5, 16),
+            (&longer, 7, 20),
+            (&one_more, 7, 20),
+            (&cut_at_top, 5, 4),
+            (&top, 8, 4),
+            (&behind, 8, 20),
+            (&cut_behind[..31], 5, 20),
+            (&cut_behind[..35], 5, 32),
+            // The first fault in table order, with a cut section behind it.
+            (&before[..27], 8, 4),
+            (&stopped[..20], 5, 20),
+        ];
+        for (one, number, place) in faults {
+            find_refuses((one, q(order)), order, number, place, 1);
+            find_refuses((one, p(order)), order, number, place, 1);
+            // Also where the older has no fault and covers the address.
+            find_refuses((q(order), one), order, number, place, 2);
+            find_refuses((p(order), one), order, number, place, 2);
+            find_refuses((&table(0, &[], order), one), order, number, place, 2);
+            // Both damaged: the older's fault is answered.
+            for (two, _, _) in faults {
+                find_refuses((one, two), order, number, place, 1);
+            }
+        }
+    }
+}
+
+#[test]
+fn a_size_up_to_the_highest_address_and_one_more() {
+    for order in ByteOrder::BOTH {
+        for (address, size, fits) in [
+            (0xFFFF_FFFF, 1, true),
+            (0xFFFF_FFFF, 2, false),
+            (0xFFFF_FFFC, 4, true),
+            (0xFFFF_FFFC, 5, false),
+        ] {
+            let data = vec![0x3C; size];
+            let bytes = table(0, &[(address, &data)], order);
+            if fits {
+                stands((&bytes, q(order)), order, address, (1, 12, &data), 24);
+                stands((q(order), &bytes), order, address, (2, 12, &data), 24);
+                nothing_stands((&bytes, q(order)), order, &[0, address - 1], 24);
+            } else {
+                find_refuses((&bytes, q(order)), order, 8, 4, 1);
+                find_refuses((q(order), &bytes), order, 8, 4, 2);
+            }
+        }
+    }
+}
+
+#[test]
+fn what_stands_in_tables_at_the_limit_and_over() {
+    for order in ByteOrder::BOTH {
+        let size = TABLE_LIMIT as u32 - 16;
+        let data: Vec<u8> = (0..size).map(|i| (i % 251) as u8).collect();
+        let mut large = table(0, &[(0x2000_0000, &data)], order);
+        assert_eq!(large.len(), TABLE_LIMIT);
+        // Two of them, whose join would be over the limit.
+        for (older, newer, named) in [
+            (&large[..], &q(order)[..], 1),
+            (q(order), &large, 2),
+            (&large, &large, 2),
+        ] {
+            let pair = (older, newer);
+            for skipped in [0, 1, size / 2, size - 1] {
+                let part = &data[skipped as usize..];
+                let expected = (named, 12 + u64::from(skipped), part);
+                stands(pair, order, 0x2000_0000 + skipped, expected, 24);
+            }
+            nothing_stands(pair, order, &[0x1FFF_FFFF, 0x2000_0000 + size], 24);
+        }
+        // Over the limit: 4, in the table that is, and before its form.
+        large.push(0);
+        find_refuses((&large, q(order)), order, 4, 0, 1);
+        find_refuses((q(order), &large), order, 4, 0, 2);
+        find_refuses((&large, &large), order, 4, 0, 1);
+        // The older is judged whole before the newer.
+        find_refuses((&large, &p(order)[..3]), order, 4, 0, 1);
+        find_refuses((&p(order)[..3], &large), order, 5, 0, 1);
+        find_refuses((&p(order)[..19], &large), order, 5, 16, 1);
+        find_refuses((&[&p(order)[..], &[0]].concat(), &large), order, 7, 20, 1);
+    }
+}
+
+#[test]
+fn what_stands_among_as_many_sections_as_the_limit_takes() {
+    let count = (TABLE_LIMIT - 8) / 12;
+    assert_eq!(count, 1_398_100);
+    for order in ByteOrder::BOTH {
+        // Each of 16 addresses is covered again and again.
+        let mut many = vec![0; 4];
+        for i in 0..count {
+            let address = 0x0080_0000 + (i % 16) as u32;
+            let pads = [0xFF, (i % 7) as u8, 1];
+            many.extend(padded_section(address, &[(i % 251) as u8], &pads, order));
+        }
+        many.extend([0; 4]);
+        // The last three sections cover 0x00800001, 0x00800002 and 0x00800003.
+        let (one, two) = (8 * 1_398_101 + 8, 8 * 2_796_200 + 8);
+        let end = many.len() as u64 - 4;
+        let last = [(1_398_099 % 251) as u8];
+        stands(
+            (&many, q(order)),
+            order,
+            0x0080_0003,
+            (1, end - 4, &last),
+            one,
+        );
+        stands((&many, q(order)), order, 0x0080_0004, (2, 12, &[0xB7]), one);
+        let before = [(1_398_098 % 251) as u8];
+        stands(
+            (q(order), &many),
+            order,
+            0x0080_0002,
+            (2, end - 16, &before),
+            one,
+        );
+        // 0x00800004 is covered 15 sections before the last.
+        let earlier = [(1_398_084 % 251) as u8];
+        let expected = (2, end - 4 - 12 * 15, &earlier[..]);
+        stands((&many, &many), order, 0x0080_0004, expected, two);
+        nothing_stands((&many, &many), order, &[0x0080_0010], two);
+        // The last section cut, and past the top.
+        let place = end - 12;
+        find_refuses((q(order), &many[..many.len() - 5]), order, 5, place, 2);
+        let at = place as usize;
+        many[at..at + 8].copy_from_slice(&[header_word(2, order), [0xFF; 4]].concat());
+        find_refuses((&many, q(order)), order, 8, place, 1);
+    }
+}
+
+#[test]
+fn what_stands_in_tables_read_in_the_wrong_order() {
+    for order in ByteOrder::BOTH {
+        let (right, wrong) = (order, order.other());
+        // The sizes 3 and 1 are read as 0x03000000 and 0x01000000.
+        for bytes in [p(wrong), q(wrong)] {
+            find_refuses((bytes, q(right)), right, 5, 4, 1);
+            find_refuses((p(right), bytes), right, 5, 4, 2);
+            find_refuses((bytes, bytes), right, 5, 4, 1);
+        }
+        // Without sections only the entry is read otherwise, and it decides nothing.
+        let none = table(0x0080_0004, &[], wrong);
+        nothing_stands((&none, &none), right, &[0x0080_0004, 0x0400_8000], 8);
+        // The address alone is turned: P's is read as 0x02008000.
+        let mut turned = *p(right);
+        turn_word(&mut turned, 8);
+        let pair = (&turned[..], &q(right)[..]);
+        stands(pair, right, 0x0200_8000, (1, 12, &[0xA1, 0xA2, 0xA3]), 24);
+        nothing_stands(pair, right, &[0x0080_0002], 24);
+        // The entry alone, which changes nothing.
+        let mut turned = *p(right);
+        turn_word(&mut turned, 0);
+        let pair = (&turned[..], &q(right)[..]);
+        stands(pair, right, 0x0080_0003, (1, 13, &[0xA2, 0xA3]), 24);
+    }
+}
+
+#[test]
+fn what_stands_under_header_words_of_different_bytes() {
+    let data: Vec<u8> = (0..0x1_0203).map(|i| (i % 251) as u8).collect();
+    let high = [0x12, 0x34, 0x56, 0x79, 0, 1, 2, 3, 0x12, 0x34, 0x56, 0x78];
+    let low = [0x79, 0x56, 0x34, 0x12, 3, 2, 1, 0, 0x78, 0x56, 0x34, 0x12];
+    for (header, order) in [(high, HighFirst), (low, LowFirst)] {
+        // One pad and the zero word.
+        let bytes = [&header[..], &data, &[0xFF], &[0; 4]].concat();
+        for (older, newer, named) in [(&bytes[..], &q(order)[..], 1), (q(order), &bytes, 2)] {
+            let pair = (older, newer);
+            stands(pair, order, 0x1234_5678, (named, 12, &data), 24);
+            stands(
+                pair,
+                order,
+                0x1235_0000,
+                (named, 12 + 0xA988, &data[0xA988..]),
+                24,
+            );
+            stands(
+                pair,
+                order,
+                0x1235_587A,
+                (named, 12 + 0x1_0202, &data[0x1_0202..]),
+                24,
+            );
+            nothing_stands(pair, order, &[0x1234_5677, 0x1235_587B, 0x7856_3412], 24);
+        }
+        // The size is read as 0x03020100.
+        find_refuses((&bytes, q(order.other())), order.other(), 5, 4, 1);
+        find_refuses((q(order.other()), &bytes), order.other(), 5, 4, 2);
+    }
+}
+
+#[test]
+fn what_stands_in_a_table_that_is_well_formed_in_both_orders() {
+    // High first the sizes are 0x100 and 0xFEF8; low first the only size is
+    // 0x10000, and the second section is data of the first.
+    let bytes = [
+        &[0, 0x20, 0, 0, 0, 0, 1, 0, 0, 0x20, 0, 0][..],
+        &[0x11; 0x100],
+        &[0, 0, 0xFE, 0xF8, 0, 0x30, 0, 0],
+        &[0x22; 0xFEF8],
+        &[0; 4],
+    ]
+    .concat();
+    let none = [0; 8];
+    for (older, newer, named) in [(&bytes[..], &none[..], 1), (&none, &bytes, 2)] {
+        let pair = (older, newer);
+        let part = |offset: usize, end: usize| (named, offset as u64, &bytes[offset..end]);
+        let (first_end, second, end) = (12 + 0x100, 12 + 0x108, 12 + 0x1_0000);
+        stands(pair, HighFirst, 0x0020_0000, part(12, first_end), 24);
+        stands(pair, HighFirst, 0x0020_00FF, part(12 + 0xFF, first_end), 24);
+        stands(pair, HighFirst, 0x0030_0000, part(second, end), 24);
+        stands(pair, HighFirst, 0x0030_FEF7, part(end - 1, end), 24);
+        nothing_stands(pair, HighFirst, &[0x0020_0100, 0x0000_2000], 24);
+        stands(pair, LowFirst, 0x0000_2000, part(12, end), 16);
+        stands(pair, LowFirst, 0x0000_20FF, part(12 + 0xFF, end), 16);
+        stands(pair, LowFirst, 0x0000_2108, part(second, end), 16);
+        stands(pair, LowFirst, 0x0001_1FFF, part(end - 1, end), 16);
+        nothing_stands(pair, LowFirst, &[0x0001_2000, 0x0020_0000], 16);
     }
 }
 

@@ -20,7 +20,7 @@ use Rattle.boot_table.specs.Table.{entryOf, Sect, chunk, chunks, tableOf
 use Rattle.boot_table.specs.Form.{total, readForm, formOf, WellFormed}
 use Rattle.boot_table.specs.Pads.{inPads, padFrom, DifferInPads, bare}
 use Rattle.boot_table.specs.Valid.{Valid, All, none, also}
-use Rattle.boot_table.proofs.StepLaws.{IsSection, step-same, section-of, length-body}
+use Rattle.boot_table.proofs.StepLaws.{IsSection, step-same, section-of, length-body, next-at}
 use Rattle.boot_table.proofs.ReadLaws.{read-section, read-end, read-fault, step-ind}
 use Rattle.boot_table.proofs.RoundTrip.{length-chunk, length-table, read-table, table-read, valid-read}
 
@@ -65,16 +65,11 @@ module _ (o : ByteOrder) (t u : List ℕ) (long : length t ≡ length u) where
 
   -- a section of t at offset at, before sections ss
   module _ (at : ℕ) {address size start next : ℕ} (i : IsSection o t at address size start next) (ss : List Sect) (same : Same at (sectionAt t at address size ∷ ss)) where
-    -- its next offset
-    next-of : nextOf at (length (sectionAt t at address size .body)) ≡ next
-    unfolding nextOf
-    next-of = rw (length-body o t at i) (sym (i .next-is))
-
     -- its data is the same in u
     same-byte : (k : ℕ) → k < size → getD t (at + 8 + k) 0 ≡ getD u (at + 8 + k) 0
     same-byte k h =
         same (at + 8 + k) (omega arith)
-        (pad-front at (sectionAt t at address size) ss (at + 8 + k) (rw next-of (pad-low next ss (at + 8 + k) (omega (arith, i .next-is)))) (omega (arith, length-body o t at i)))
+        (pad-front at (sectionAt t at address size) ss (at + 8 + k) (rw (next-at o t at i) (pad-low next ss (at + 8 + k) (omega (arith, i .next-is)))) (omega (arith, length-body o t at i)))
 
     same-body : take size (drop (at + 8) t) ≡ take size (drop (at + 8) u)
     same-body =
@@ -90,7 +85,7 @@ module _ (o : ByteOrder) (t u : List ℕ) (long : length t ≡ length u) where
     -- and so is what stands after it
     same-on : Same next ss
     same-on k h p =
-        same k (omega (arith, i .next-is)) (pad-later at (sectionAt t at address size) ss k (rw next-of p) (rw next-of h))
+        same k (omega (arith, i .next-is)) (pad-later at (sectionAt t at address size) ss k (rw (next-at o t at i) p) (rw (next-at o t at i) h))
 
   -- both read alike from there on
   read-alike : (at : ℕ) → Same at (readOn o t at .sections) → bareReading (readOn o t at) ≡ bareReading (readOn o u at)

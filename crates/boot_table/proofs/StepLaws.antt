@@ -1,6 +1,6 @@
 -- The walk step: what each outcome says of the table, and when it comes out.
 use Prim.Native.Nat.{ℕ, _+_, _^_, _≤_, _<_}
-use mathlib.Core.Path.{_≡_, refl, _∙_, subst}
+use mathlib.Core.Path.{_≡_, refl, sym, _∙_, subst}
 use mathlib.Core.List.{List, [], _∷_}
 use mathlib.Core.Logic.{⊎-elim}
 use native.Mathlib.Omega.{arith}
@@ -178,3 +178,8 @@ module _ (o : ByteOrder) (t : List ℕ) (at : ℕ) {address size start next : �
   pub length-pads : length (sectionAt t at address size .pads) ≡ padCount size
   unfolding sectionAt
   length-pads = length-take-le (padCount size) (drop (at + 8 + size) t) (simp length-drop (omega (arith, i .next-is, i .within)))
+
+  -- what stands next is right after it
+  pub next-at : nextOf at (length (sectionAt t at address size .body)) ≡ next
+  unfolding nextOf
+  next-at = rw length-body (sym (i .next-is))

@@ -4,4 +4,5 @@ pub mod Theorem
 pub mod CallLaws
 pub mod OrderProof
 pub mod WritingProof
+pub mod FindingProof
 pub mod CardsProof

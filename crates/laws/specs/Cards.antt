@@ -13,6 +13,8 @@ use Rattle.joiner.specs.Join.{joinAnswer, joinOutput}
 use Rattle.writer.specs.declared.Section.{Section}
 use Rattle.writer.specs.declared.Written.{Written}
 use Rattle.writer.specs.Write.{writeAnswer, writeOutput}
+use Rattle.query.specs.declared.Found.{Found}
+use Rattle.query.specs.Find.{findAnswer, partBytes}
 use Rattle.boot_config.specs.declared.Configured.{Configured}
 use Rattle.boot_config.specs.Config.{configAnswer, configValues}
 use Rattle.boot_strap.specs.declared.Manner.{Manner}
@@ -24,11 +26,12 @@ use Rattle.boot_strap.specs.declared.SameAnswer.{SameAnswer}
 use Rattle.boot_strap.specs.declared.LabelAnswer.{LabelAnswer}
 use Rattle.boot_strap.specs.Strap.{decodeAs, decodeShort, sameAnswer, labelAnswer}
 
--- a card is a call, with the whole answer and all that the lent buffer holds afterwards
+-- a card is a call, with the whole answer and all that the lent buffer holds afterwards; for finding, with the bytes of the part
 pub data Card : Type 0 where
   Load : ByteOrder → (map table memory : List ℕ) → Answer → List ℕ → Card
   Join : ByteOrder → (first second output : List ℕ) → Joined → List ℕ → Card
   Write : ByteOrder → (entry : ℕ) → List Section → (bytes output : List ℕ) → Written → List ℕ → Card
+  Find : ByteOrder → (older newer : List ℕ) → (address : ℕ) → Found → List ℕ → Card
   Configure : (table addresses values : List ℕ) → Configured → List ℕ → Card
   Decode : Manner → ℕ → StrapAnswer → Card
   DecodeShort : ℕ → StrapAnswer → Card
@@ -40,6 +43,7 @@ abbrev pub Holds : Card → Type 0
 Holds (Load order map table memory answer after) = (loadAnswer order map table (length memory) ≡ answer) × (loadMemory order map table memory ≡ after)
 Holds (Join order first second output answer after) = (joinAnswer order first second (length output) ≡ answer) × (joinOutput order first second output ≡ after)
 Holds (Write order entry sections bytes output answer after) = (writeAnswer order entry sections bytes (length output) ≡ answer) × (writeOutput order entry sections bytes output ≡ after)
+Holds (Find order older newer address answer bytes) = (findAnswer order older newer address ≡ answer) × (partBytes (findAnswer order older newer address) older newer ≡ bytes)
 Holds (Configure table addresses values answer after) = (configAnswer table addresses values ≡ answer) × (configValues table addresses values ≡ after)
 Holds (Decode manner value answer) = decodeAs manner value ≡ answer
 Holds (DecodeShort value answer) = decodeShort value ≡ answer
@@ -71,6 +75,12 @@ wrote n sections = record { number = 0; place = 0; length = n; sections = sectio
 
 abbrev pub unwritten : ℕ → ℕ → Written
 unwritten number place = record { number = number; place = place; length = 0; sections = 0 }
+
+abbrev pub found : ℕ → ℕ → ℕ → ℕ → Found
+found table offset size read = record { number = 0; place = 0; table = table; offset = offset; length = size; read = read }
+
+abbrev pub unfound : ℕ → ℕ → ℕ → Found
+unfound number place table = record { number = number; place = place; table = table; offset = 0; length = 0; read = 0 }
 
 abbrev pub configured : ℕ → ℕ → Configured
 configured entries bits = record { number = 0; place = 0; entries = entries; bits = bits }
@@ -263,7 +273,7 @@ bothMasks =
 
 -- ---- the cards
 
--- the twelve cards of document 01, card 6 as request 2 and card 12 as request 7 of document 02 have them; for request 8 P and Q low first, and a word of four different bytes in each order; for request 10 maps with kind 3; and for request 1 tables that are written from lists
+-- the twelve cards of document 01, card 6 as request 2 and card 12 as request 7 of document 02 have them; for request 8 P and Q low first, and a word of four different bytes in each order; for request 10 maps with kind 3; for request 1 tables that are written from lists; and for request 4 what stands at an address
 abbrev pub cards : List Card
 cards =
     -- 1: P under M
@@ -387,4 +397,28 @@ cards =
     Write HighFirst 0x00800000 (listed 0x00800002 0 3 ∷ listed 0x00800004 3 1 ∷ listed 0xFFFFFFFF 0 2 ∷ []) dataPQ output (unwritten 8 2) output ∷
     -- a table that is one byte longer than the output
     Write HighFirst 0x00800000 (listed 0x00800002 0 3 ∷ []) dataPQ (replicate 19 0xEE) (unwritten 11 0) (replicate 19 0xEE) ∷
+    -- older P, newer Q, at each address of P and on both sides of it: Q decides where it covers, the pad is no data, and near is not covered
+    Find HighFirst tableP tableQ 0x00800001 (found 0 0 0 24) [] ∷
+    Find HighFirst tableP tableQ 0x00800002 (found 1 12 3 24) (0xA1 ∷ 0xA2 ∷ 0xA3 ∷ []) ∷
+    Find HighFirst tableP tableQ 0x00800003 (found 1 13 2 24) (0xA2 ∷ 0xA3 ∷ []) ∷
+    Find HighFirst tableP tableQ 0x00800004 (found 2 12 1 24) (0xB7 ∷ []) ∷
+    Find HighFirst tableP tableQ 0x00800005 (found 0 0 0 24) [] ∷
+    -- older Q, newer P
+    Find HighFirst tableQ tableP 0x00800004 (found 2 14 1 24) (0xA3 ∷ []) ∷
+    -- in one table the last section decides, and its neighbour where it does not cover
+    Find HighFirst joinPQ noSections 0x00800004 (found 1 24 1 24) (0xB7 ∷ []) ∷
+    Find HighFirst joinPQ noSections 0x00800003 (found 1 13 2 24) (0xA2 ∷ 0xA3 ∷ []) ∷
+    Find HighFirst noSections joinQP 0x00800004 (found 2 26 1 24) (0xA3 ∷ []) ∷
+    -- P and Q low first; no sections; the last address, and address 0, at which nothing comes round
+    Find LowFirst lowP lowQ 0x00800004 (found 2 12 1 24) (0xB7 ∷ []) ∷
+    Find HighFirst noSections noSections 0x00800000 (found 0 0 0 8) [] ∷
+    Find HighFirst atTop topTable 0xFFFFFFFE (found 1 14 2 24) (0xA3 ∷ 0xB7 ∷ []) ∷
+    Find HighFirst atTop topTable 0xFFFFFFFF (found 2 12 1 24) (0xC1 ∷ []) ∷
+    Find HighFirst atTop topTable 0x00000000 (found 0 0 0 24) [] ∷
+    -- the older table's fault goes before the newer's, and a fault of either before what the other covers
+    Find HighFirst shortP longP 0x00800004 (unfound 5 16 1) [] ∷
+    Find HighFirst tableP longP 0x00800004 (unfound 7 20 2) [] ∷
+    Find HighFirst pastTopTable tableP 0x00800004 (unfound 8 4 1) [] ∷
+    Find HighFirst tableP [] 0x00800004 (unfound 5 0 2) [] ∷
+    Find LowFirst tableP lowQ 0x00800004 (unfound 5 4 1) [] ∷
     []

@@ -2,4 +2,5 @@ pub mod Calls
 pub mod Demand3
 pub mod Orders
 pub mod Writing
+pub mod Finding
 pub mod Cards

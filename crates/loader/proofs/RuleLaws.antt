@@ -11,7 +11,7 @@ use Rattle.region_map.specs.Map.{closedFrom}
 use Rattle.region_map.proofs.OpenLaws.{open-each, each-open}
 use Rattle.boot_table.specs.declared.Step.the-variants.{Section, End}
 use Rattle.boot_table.specs.Table.{Sect, nextOf, stepAt, sectionAt, before, readOn, reading}
-use Rattle.boot_table.proofs.StepLaws.{section-of, length-body}
+use Rattle.boot_table.proofs.StepLaws.{section-of, length-body, next-at}
 use Rattle.boot_table.proofs.ReadLaws.{read-section, read-end}
 use Rattle.boot_table.proofs.FormLaws.{form-section}
 use Rattle.boot_table.specs.Valid.{All, none as all-none, also}
@@ -90,19 +90,13 @@ size-is : (o : ByteOrder) (m t : List ℕ) (at : ℕ) {address size start next :
     → closedFrom m (length (sectionAt t at address size .body)) address ≡ closedFrom m size address
 size-is o m t at e = rw (length-body o t at (section-of o t at e))
 
--- and the next one stands after it
-next-is : (o : ByteOrder) (t : List ℕ) (at : ℕ) {address size start next : ℕ} → stepAt o t at ≡ Section address size start next
-    → nextOf at (length (sectionAt t at address size .body)) ≡ next
-unfolding nextOf
-next-is o t at e = let i = section-of o t at e in rw (length-body o t at i) (sym (i .next-is))
-
 module _ (o : ByteOrder) (m : List ℕ) (fine : Answer) (t : List ℕ) (at : ℕ) where
   module _ {address size start next : ℕ} (e : stepAt o t at ≡ Section address size start next) where
     pub walk-open : closedFrom m size address ≡ none → mapRule m fine at (readOn o t at .sections) ≡ mapRule m fine next (readOn o t next .sections)
     unfolding before sectionAt
     walk-open n =
         rw (read-section o t at e) (rule-open m fine at (sectionAt t at address size) (readOn o t next .sections) (size-is o m t at e ∙ n))
-        ∙ ap (λ (k : ℕ). mapRule m fine k (readOn o t next .sections)) (next-is o t at e)
+        ∙ ap (λ (k : ℕ). mapRule m fine k (readOn o t next .sections)) (next-at o t at (section-of o t at e))
 
     pub walk-closed : (a : ℕ) → closedFrom m size address ≡ some a → mapRule m fine at (readOn o t at .sections) ≡ notOpen at a
     unfolding before sectionAt

@@ -22,7 +22,7 @@ use Rattle.boot_table.specs.Table.{Sect, Reading, nextOf, stepAt, sectionAt, be
 use Rattle.boot_table.specs.Form.{WellFormed}
 use Rattle.boot_table.specs.Meaning.{covers, times}
 use Rattle.boot_table.specs.Valid.{All, none, also}
-use Rattle.boot_table.proofs.StepLaws.{IsSection, section-of, length-body}
+use Rattle.boot_table.proofs.StepLaws.{IsSection, section-of, length-body, next-at}
 use Rattle.boot_table.proofs.ReadLaws.{read-section, read-end, read-next, whole-ind}
 use Rattle.boot_table.proofs.FormLaws.{well-read, well-long}
 use Rattle.boot_table.proofs.MeaningLaws.{covers-true, covers-in, times-yes, times-no, times-append}
@@ -223,7 +223,7 @@ behind-more o m t at p r {address} {size} {start} {next} e b w h =
       rule = b .rule
           ∙ ap (λ (r : Reading). repeatFrom m at (take (p .sections) (reading o t .sections)) (r .sections)) (read-section o t at e)
           ∙ repeat-on m at (take (p .sections) (reading o t .sections)) s (readOn o t next .sections) no-repeat
-          ∙ ap (λ (n : ℕ). repeatFrom m n (take (p .sections) (reading o t .sections) ++ s ∷ []) (readOn o t next .sections)) next-is
+          ∙ ap (λ (n : ℕ). repeatFrom m n (take (p .sections) (reading o t .sections) ++ s ∷ []) (readOn o t next .sections)) (next-at o t at i)
           ∙ ap (λ (l : List Sect). repeatFrom m next l (readOn o t next .sections)) (sym taken);
       between = λ x k. rest-between x (rw taken at k);
     }
@@ -252,9 +252,6 @@ behind-more o m t at p r {address} {size} {start} {next} e b w h =
     no-repeat : repeatsFrom m (take (p .sections) (reading o t .sections)) (length (sectionAt t at address size .body)) address ≡ false
     no-repeat = repeats-none m (take (p .sections) (reading o t .sections)) (length (sectionAt t at address size .body)) address
         (λ x l u. w .miss refl x l (omega (arith, length-body o t at i)))
-
-    next-is : nextOf at (length (sectionAt t at address size .body)) ≡ next
-    next-is = rw (length-body o t at i) (sym (i .next-is))
 
     rest-between : (x : ℕ) → 1 ≤ times (take (p .sections) (reading o t .sections) ++ sectionAt t at address size ∷ []) x → (r .low ≤ x) × (x < r .high)
     rest-between x k = go (covers (sectionAt t at address size) x) refl

@@ -9,6 +9,7 @@ use Rattle.region_map.specs.declared.MapAnswer.{MapAnswer}
 use Rattle.loader.specs.declared.Answer.{Answer}
 use Rattle.joiner.specs.declared.Joined.{Joined}
 use Rattle.writer.specs.declared.Written.{Written}
+use Rattle.query.specs.declared.Found.{Found}
 use Rattle.boot_config.specs.declared.Configured.{Configured}
 use Rattle.boot_strap.specs.declared.Manner.{Manner}
 use Rattle.boot_strap.specs.declared.Manner.the-variants.{Strict, Lenient}
@@ -30,6 +31,10 @@ joinNumbers r = r .number ∷ r .place ∷ r .which ∷ r .length ∷ r .section
 -- number, place, length, sections
 unfoldable pub writeNumbers : Written → List ℕ
 writeNumbers r = r .number ∷ r .place ∷ r .length ∷ r .sections ∷ []
+
+-- number, place, table, offset, length, bytes read
+unfoldable pub findNumbers : Found → List ℕ
+findNumbers r = r .number ∷ r .place ∷ r .table ∷ r .offset ∷ r .length ∷ r .read ∷ []
 
 -- number, place, entries, bits
 unfoldable pub configNumbers : Configured → List ℕ

@@ -5,9 +5,10 @@ ghost use Rattle.region_map.specs.Map.{mapAnswer};
 ghost use Rattle.loader.specs.Load.{judgeAnswer, loadAnswer, loadMemory};
 ghost use Rattle.joiner.specs.Join.{joinAnswer, joinOutput};
 ghost use Rattle.writer.specs.Write.{writeAnswer, writeOutput};
+ghost use Rattle.query.specs.Find.{findAnswer};
 ghost use Rattle.boot_config.specs.Config.{configAnswer, configValues};
 ghost use Rattle.boot_strap.specs.Strap.{numbersAs, numbersShort, nine, sameAnswer, labelAnswer};
-ghost use Rattle.tuneharbor.specs.Numbers.{mapNumbers, loadNumbers, joinNumbers, writeNumbers, configNumbers};
+ghost use Rattle.tuneharbor.specs.Numbers.{mapNumbers, loadNumbers, joinNumbers, writeNumbers, findNumbers, configNumbers};
 ghost use Rattle.tuneharbor.specs.Numbers.{orderOf, mannerOf, sameNumbers, labelNumbers};
 use boot_config::configure;
 use boot_strap::Manner;
@@ -15,6 +16,7 @@ use joiner::join;
 use loader::Answer;
 use loader::judge;
 use loader::load;
+use query::find;
 use region_map::judge_map;
 use words::ByteOrder;
 use writer::Section;
@@ -130,6 +132,28 @@ pub extern "C" fn tuneharbor_write(
         write(entry, sections, data, order_of(low_first), output),
         answer,
     );
+}
+
+// Finds what stands at an address in two tables.
+#[no_mangle]
+pub extern "C" fn tuneharbor_find(
+    older: &[u8],
+    newer: &[u8],
+    low_first: bool,
+    address: u32,
+    answer: &mut [u64; 6],
+)
+    ensures { λ _. ⌜ now (answer .exit) ≡ findNumbers (findAnswer (orderOf «low_first») (now (older .entry)) (now (newer .entry)) address) ⌝ }
+{
+    let found = find(older, newer, order_of(low_first), address);
+    *answer = [
+        found.number as u64,
+        found.place as u64,
+        found.table as u64,
+        found.offset as u64,
+        found.length as u64,
+        found.read as u64,
+    ];
 }
 
 // Sets and clears bits of registers by a configuration table.

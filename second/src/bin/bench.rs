@@ -3,7 +3,7 @@
 
 use second::cases::{self, Numbers};
 use second::reference::{
-    ByteOrder, ListSection, CONFIG_LIMIT, REGISTER_LIMIT, STRAP_LIMIT, TABLE_LIMIT,
+    ByteOrder, FindAnswer, ListSection, CONFIG_LIMIT, REGISTER_LIMIT, STRAP_LIMIT, TABLE_LIMIT,
 };
 use second::{calls, fast};
 use std::fmt::Debug;
@@ -107,12 +107,14 @@ fn print_header() {
     println!("of {REPEATS} repeats, in slow cases of fewer, but at least of {FEWEST}.");
     println!("Buffers are touched once before timing: tables, lists, data, memory, output,");
     println!("values.");
-    println!("case: the order of the sections (load, judge, join, write), of the records (map),");
-    println!("of the entries (configure). Under a table the records touch and stand in falling");
-    println!("order; apart: they do not touch; reserved: half of them are reserved; once: half");
-    println!("of the sections lie in kind 3, or all of them where there is one record.");
-    println!("sections, bytes: of the table, for join of both tables, for write of the table");
-    println!("that is written; bytes are data bytes, for configure those of the entries.");
+    println!("case: the order of the sections (load, judge, join, write, find), of the records");
+    println!("(map), of the entries (configure). Under a table the records touch and stand in");
+    println!("falling order; apart: they do not touch; reserved: half of them are reserved;");
+    println!("once: half of the sections lie in kind 3, or all of them where there is one");
+    println!("record. find: one section of the older table covers the address; all cover: each");
+    println!("section of both tables does; in turns: rising, and fast walks both tables in turns.");
+    println!("sections, bytes: of the table, for join and find of both tables, for write of the");
+    println!("table that is written; bytes are data bytes, for configure those of the entries.");
     println!("records: map records.");
     println!("memcpy: copy_from_slice of as many bytes; none where the call copies nothing.");
     println!("lib/fast, lib/memcpy: the library's time over the other's.");
@@ -642,6 +644,119 @@ fn writes(numbers: &mut Numbers) {
     write(numbers, most(1), 1);
 }
 
+/// A peer that finds what stands at an address.
+type Find = fn(&[u8], &[u8], ByteOrder, u32) -> FindAnswer;
+
+/// What stands at an address in two tables of sections of one size, one at each
+/// address of a list for each.
+fn find(
+    numbers: &mut Numbers,
+    case: &str,
+    lists: &[Vec<u32>; 2],
+    size: usize,
+    address: u32,
+    peer: Find,
+) {
+    let mut tables = lists
+        .each_ref()
+        .map(|addresses| even_table(numbers, addresses, size));
+    let sections = lists[0].len() + lists[1].len();
+
+    let [high, low] = ByteOrder::BOTH.map(|order| {
+        let [older, newer] = tables.each_mut().map(|table| {
+            table.write_in(order);
+            assert!(table.bytes.len() <= TABLE_LIMIT);
+            table.read()
+        });
+        let answer = calls::find(older, newer, order, address);
+        assert_eq!(answer, peer(older, newer, order, address));
+        answer
+    });
+    assert_eq!(high, low, "the same in each order");
+    assert_eq!((high.number, high.read), (0, 8 * sections as u64 + 8));
+    assert_ne!(high.table, 0);
+
+    let groups = ByteOrder::BOTH.map(|order| Group {
+        before: Box::new(move |tables: &mut [Table; 2]| {
+            for table in tables {
+                table.write_in(order);
+            }
+        }),
+        works: vec![
+            Box::new(move |[older, newer]: &mut [Table; 2]| {
+                let address = black_box(address);
+                black_box(calls::find(older.read(), newer.read(), order, address));
+            }),
+            Box::new(move |[older, newer]: &mut [Table; 2]| {
+                let address = black_box(address);
+                black_box(peer(older.read(), newer.read(), order, address));
+            }),
+        ],
+    });
+    let line = Line {
+        call: "find",
+        case,
+        sections: Some(sections),
+        bytes: Some(sections * size),
+        ..Default::default()
+    };
+    print_orders(line, measure(&mut tables, groups));
+}
+
+/// Two tables of as many sections of one size, one after the other and the newer's
+/// past the older's, and the address of a byte in the middle of the older's. Answers
+/// the addresses of the sections.
+fn find_rising(numbers: &mut Numbers, count: usize, size: usize) -> [Vec<u32>; 2] {
+    let rows = Rows {
+        sections: 2 * count,
+        size,
+        rows: 1,
+        gap: 0,
+    };
+    let mut older = rows.addresses();
+    let newer = older.split_off(count);
+    let lists = [older, newer];
+    find(
+        numbers,
+        "rising",
+        &lists,
+        size,
+        middle(count, size),
+        fast::find,
+    );
+    lists
+}
+
+/// An address in the middle of so many sections of one size.
+fn middle(count: usize, size: usize) -> u32 {
+    BASE + (count * size / 2) as u32 + 1
+}
+
+/// One section of each table, the largest that the limit takes; 1,000 of 16 KiB; and
+/// a round million of four bytes, rising, against both peers, in no order, and all at
+/// one address.
+fn finds(numbers: &mut Numbers) {
+    find_rising(numbers, 1, TABLE_LIMIT - 16);
+    find_rising(numbers, 1000, 16 * 1024);
+    let (count, size) = (1_000_000, 4);
+    let address = middle(count, size);
+    let mut lists = find_rising(numbers, count, size);
+    find(
+        numbers,
+        "in turns",
+        &lists,
+        size,
+        address,
+        fast::find_in_turns,
+    );
+    for list in &mut lists {
+        numbers.shuffle(list);
+    }
+    find(numbers, "random", &lists, size, address, fast::find);
+    let lists = [(); 2].map(|()| vec![BASE; count]);
+    find(numbers, "all cover", &lists, size, BASE + 1, fast::find);
+}
+
 fn configure(numbers: &mut Numbers) {
     let addresses: Vec<u32> = (0..REGISTER_LIMIT as u32)
         .map(|i| 0x0262_0000 + 4 * i)
@@ -792,6 +907,7 @@ fn main() {
         join(&mut numbers, count);
     }
     writes(&mut Numbers::new(cases::SEED, 81));
+    finds(&mut Numbers::new(cases::SEED, 82));
     configure(&mut numbers);
     straps(&mut numbers);
 }

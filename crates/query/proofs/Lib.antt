@@ -1,0 +1,5 @@
+pub mod WalkLaws
+pub mod HitLaws
+pub mod FindLaws
+pub mod HeaderLaws
+pub mod ByteLaws

@@ -1,0 +1,4 @@
+pub mod Find
+pub mod Covering
+pub mod Headers
+pub mod Walk
