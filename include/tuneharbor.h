@@ -153,8 +153,9 @@ void tuneharbor_write(uint32_t entry,
  * in one byte order. In one table the last section that covers the address
  * decides, and the newer table goes before the older. What is found is a part
  * of that table: it begins at the byte for the address and runs to the end of
- * its section's data. Where both tables load under one map, the first byte of
- * the part is what loading the older and then the newer leaves at the address.
+ * its section's data. Where both tables load under one map and one of them
+ * covers the address, the first byte of the part is what loading the older and
+ * then the newer leaves there.
  *
  * Both tables are walked to their end words. Only size and address words are
  * read, never an entry, a pad or a data byte. A table that is not well-formed

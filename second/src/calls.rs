@@ -234,8 +234,10 @@ pub fn find(older: &[u8], newer: &[u8], order: ByteOrder, address: u32) -> FindA
     }
 }
 
-/// The part whose offset and length `find` gives. Where no table covers the
-/// address, and after a refusal, both are 0, and the part is the older's.
+/// The part at an address. The wrapper cuts the part by the offset and length that
+/// `find` answers; the library's own `query::part` hands back a slice and is not in
+/// the C interface. Where no table covers the address, and after a refusal, both are
+/// 0, and the wrapper takes the older table.
 pub fn part<'a>(older: &'a [u8], newer: &'a [u8], order: ByteOrder, address: u32) -> &'a [u8] {
     let answer = find(older, newer, order, address);
     let table = match (answer.number, answer.table) {

@@ -986,24 +986,29 @@ pub fn asked(numbers: &mut Numbers, lists: [&[Section]; 2]) -> u32 {
 }
 
 /// A section that covers an address, as its first, its last or any, or that ends
-/// right before it or begins right past it.
+/// right before it or begins right past it. Right before the lowest address is the
+/// highest, and right past the highest the lowest. No section goes on past either:
+/// it is shorter instead.
 fn around(numbers: &mut Numbers, address: u32) -> Section {
-    let address = u64::from(address);
     let size = numbers.from_to(1, 13);
-    let first = match numbers.below(8) {
-        0 | 1 => address,
-        2 | 3 => (address + 1).saturating_sub(size),
-        4 => address.saturating_sub(size),
-        5 => address + 1,
-        _ => address.saturating_sub(numbers.below(size)),
+    // An address of the section, and how many it has below that.
+    let (at, below) = match numbers.below(8) {
+        0 | 1 => (address, 0),
+        2 | 3 => (address, size - 1),
+        4 => (address.wrapping_sub(1), size - 1),
+        5 => (address.wrapping_add(1), 0),
+        _ => (address, numbers.below(size)),
     };
-    let first = first.min(TOP - 1);
-    let size = size.min(TOP - first);
-    Section::of_size(numbers, first as u32, size as usize)
+    let at = u64::from(at);
+    let from_there = (size - below).min(TOP - at);
+    let below = below.min(at);
+    Section::of_size(numbers, (at - below) as u32, (below + from_there) as usize)
 }
 
-/// A case for what stands at an address: in a third of the tables up to three more
-/// sections stand around the address, and one table in five is damaged.
+/// A case for what stands at an address: one list in twelve is made empty, one
+/// address in sixteen is the lowest or the highest with a section at the other end,
+/// in a third of the tables up to three more sections stand around the address, one
+/// table in five is damaged, and one pair in twenty is written in the other order.
 pub fn find_case(numbers: &mut Numbers) -> FindCase {
     let regions = sound_map(numbers);
     let order = numbers.order();
@@ -1011,14 +1016,26 @@ pub fn find_case(numbers: &mut Numbers) -> FindCase {
         0 => Vec::new(),
         _ => sections(numbers, &regions),
     });
-    let address = asked(numbers, lists.each_ref().map(|list| &list[..]));
+    let mut address = asked(numbers, lists.each_ref().map(|list| &list[..]));
+    if numbers.once_in(16) {
+        let size = numbers.from_to(1, 13);
+        let (end, other) = numbers.pick(&[(0, TOP - size), (TOP - 1, 0)]);
+        address = end as u32;
+        let section = Section::of_size(numbers, other as u32, size as usize);
+        let list = &mut lists[numbers.index(2)];
+        list.insert(numbers.index(list.len() + 1), section);
+    }
     for list in &mut lists {
         for _ in 0..numbers.pick(&[0, 0, 0, 0, 0, 0, 1, 2, 3]) {
             let section = around(numbers, address);
             list.insert(numbers.index(list.len() + 1), section);
         }
     }
-    let [older, newer] = lists.map(|list| damaged_at_times(numbers, &regions, &list, 5, order));
+    let written = match numbers.once_in(20) {
+        true => order.other(),
+        false => order,
+    };
+    let [older, newer] = lists.map(|list| damaged_at_times(numbers, &regions, &list, 5, written));
     FindCase {
         older,
         newer,

@@ -471,14 +471,17 @@ fn at_the_limit() {
             );
             assert_eq!(memory, expected, "memory with {size} data bytes");
             let small = cases::table(0, &[(1, &[9])], order);
+            let number = if size > TABLE_LIMIT - 16 { 4 } else { 0 };
             for address in [0, 1, size as u32 - 1, size as u32] {
                 for (older, newer) in [(&table, &small), (&small, &table), (&table, &table)] {
                     for find in [fast::find, fast::find_in_turns] {
+                        let answer = find(older, newer, order, address);
                         assert_eq!(
-                            find(older, newer, order, address),
+                            answer,
                             reference::find(older, newer, order, address),
                             "address {address} in {size} data bytes"
                         );
+                        assert_eq!(answer.number, number, "{size} data bytes");
                     }
                 }
             }

@@ -1,10 +1,12 @@
 //! The laws of what stands at an address, on generated tables of either byte order
-//! and through the library's calls: where the part lies and what its first byte is
-//! after loading older and then newer, which table is named, the count of bytes
+//! and through the calls of the archive: where the part lies and what its first byte
+//! is after loading older and then newer, which table is named, the count of bytes
 //! read, that no other words and bytes matter, the same over the join of both
-//! tables and in the other order, and that a table is refused as in the join. Which
-//! section decides is read from the generated sections, and an address's place in
-//! memory from the map by the reference.
+//! tables and in the other order, and that a table is refused as in the join. The
+//! part is cut by the offset and length that the library's find answers, since the
+//! library's own part is not in the archive. Which section decides is read from the
+//! generated sections, and an address's place in memory from the map by the
+//! reference.
 
 use second::calls;
 use second::cases::{self, Numbers, Regions, Section};
@@ -90,18 +92,15 @@ fn the_first_byte_is_what_older_and_then_newer_leave() {
         } = &asked;
         let answer = asked.find();
         assert_eq!((answer.number, answer.place), (0, 0));
-        let part = asked.part();
-        assert_eq!(part.len() as u64, answer.length);
         if answer.table == 0 {
             continue;
         }
-        // The part lies in the table that is named, at its offset.
+        // The part lies in the table that is named, before its end word.
         let named = answer.table as usize - 1;
         let table = &tables[named];
         let end = answer.offset + answer.length;
         assert!(answer.length > 0 && end <= table.len() as u64 - 4);
-        let from_offset = &table[answer.offset as usize..end as usize];
-        assert_eq!(part.as_ptr_range(), from_offset.as_ptr_range());
+        let part = asked.part();
 
         let before = numbers.bytes(regions.memory_size() as usize);
         let mut memory = before.clone();
@@ -157,8 +156,6 @@ fn the_table_is_named_whose_section_decides() {
         assert_eq!(asked.part(), expected);
         if table == 0 {
             assert_eq!(answer.offset, 0);
-            let start = &asked.tables[0][..0];
-            assert_eq!(asked.part().as_ptr_range(), start.as_ptr_range());
         }
         named[table as usize] += 1;
         both += u64::from(asked.standing().iter().all(Option::is_some));
@@ -352,8 +349,6 @@ fn a_table_is_refused_as_in_the_join() {
             ..Default::default()
         };
         assert_eq!(answer, expected, "{case:?}");
-        let part = calls::part(&case.older, &case.newer, case.order, case.address);
-        assert_eq!(part.as_ptr_range(), case.older[..0].as_ptr_range());
         hits[answer.table as usize - 1][answer.number as usize] += 1;
     }
     println!("refused as in the join: {hits:?}, {accepted} accepted");

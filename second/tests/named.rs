@@ -72,10 +72,10 @@ const LOADS: [(&str, Judge, Load); 2] = [
 ];
 const JOINS: [(&str, Join); 2] = [("library", calls::join), ("reference", reference::join)];
 const WRITES: [(&str, Write); 2] = [("library", calls::write), ("reference", reference::write)];
-const FINDS: [(&str, Find, Part); 2] = [
-    ("library", calls::find, calls::part),
-    ("reference", reference::find, reference::part),
-];
+const FINDS: [(&str, Find); 2] = [("library", calls::find), ("reference", reference::find)];
+/// The library's own part is not in the archive: the wrapper cuts one by the answer of
+/// the library's find, and only its choice of table can be wrong where that is right.
+const PARTS: [(&str, Part); 2] = [("wrapper", calls::part), ("reference", reference::part)];
 const CONFIGURES: [(&str, Configure); 2] = [
     ("library", calls::configure),
     ("reference", reference::configure),
@@ -270,8 +270,8 @@ fn write_refuses((list, data): (&[ListSection], &[u8]), output: &[u8], number: u
     }
 }
 
-/// What both calls for an address give: the answer, and the part of a table that
-/// must stand where it stands there.
+/// What is found at an address: the answer, and the part of a table that must stand
+/// where it stands there.
 #[track_caller]
 fn find_gives(
     (older, newer): (&[u8], &[u8]),
@@ -280,9 +280,11 @@ fn find_gives(
     expected: FindAnswer,
     part: &[u8],
 ) {
-    for (name, find, find_part) in FINDS {
+    for (name, find) in FINDS {
         let answer = find(older, newer, order, address);
         assert_eq!(answer, expected, "{name}, {address:08x}, {order:?}");
+    }
+    for (name, find_part) in PARTS {
         let found = find_part(older, newer, order, address);
         assert_eq!(
             found.as_ptr_range(),

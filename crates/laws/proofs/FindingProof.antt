@@ -6,22 +6,23 @@ use mathlib.Core.List.{List}
 use mathlib.Core.Bool.{true}
 use mathlib.Core.Option.{none, some, Option·getD}
 use native.Mathlib.Omega.{arith}
-use native.Mathlib.Decide.{ℕ-discrete}
+use native.Mathlib.Decide.{decLe, ℕ-discrete}
 use lib.ListN.{length, getD}
 use Rattle.words.specs.declared.ByteOrder.{ByteOrder}
 use Rattle.region_map.specs.Map.{isOpen, placeOf}
 use Rattle.region_map.proofs.PlaceLaws.{place-lt}
 use Rattle.boot_table.specs.Table.{Sect, reading}
-use Rattle.boot_table.specs.Form.{formOf}
+use Rattle.boot_table.specs.Form.{tableLimit, formOf}
 use Rattle.boot_table.specs.Meaning.{lastByte}
 use Rattle.boot_table.proofs.FormLaws.{form-well}
 use Rattle.loader.specs.Load.{loadMemory, Accepted}
 use Rattle.loader.proofs.LoadLaws.{accepted-iff, length-load, loaded-at}
 use Rattle.loader.proofs.SameLaws.{covered-open}
-use Rattle.joiner.specs.Join.{joinRefused}
-use Rattle.joiner.proofs.AnswerLaws.{first-refused, second-refused}
+use Rattle.joiner.specs.declared.Joined.{Joined}
+use Rattle.joiner.specs.Join.{joinedLength, joinRefused, joinAnswer}
+use Rattle.joiner.proofs.AnswerLaws.{first-refused, second-refused, join-long, output-short, join-done}
 use Rattle.query.specs.declared.Found.{Found}
-use Rattle.query.specs.Find.{findAnswer, partBytes}
+use Rattle.query.specs.Find.{findRefused, findAnswer, partBytes}
 use Rattle.query.specs.Covering.{Says}
 use Rattle.query.proofs.FindLaws.{finding, fault-walked, well-walked, find-first, find-second}
 use Rattle.query.proofs.ByteLaws.{uncovered-none, covers-byte}
@@ -68,14 +69,14 @@ module _ (o : ByteOrder) (m older newer mem : List ℕ) (a : ℕ) (both : BothLo
 
   in-newer : answer .table ≡ 2 → Stands o m older newer mem a
   in-newer e =
-      let l = covers-byte (reading o newer .sections) a bytes (says .in-newer e) in
+      let l = covers-byte 4 (reading o newer .sections) a (answer .offset) bytes (says .in-newer e) in
       let is = covered-open m (second .opens) a (covered (reading o newer .sections) (getD bytes 0 0) (l .0)) in
       stands (omega arith) is (l .1) (after is ∙ rw (l .0) refl)
 
   in-older : answer .table ≡ 1 → Stands o m older newer mem a
   in-older e =
       let p = says .in-older e in
-      let l = covers-byte (reading o older .sections) a bytes (p .1) in
+      let l = covers-byte 4 (reading o older .sections) a (answer .offset) bytes (p .1) in
       let is = covered-open m (first .opens) a (covered (reading o older .sections) (getD bytes 0 0) (l .0)) in
       stands (omega arith) is (l .1) (after is ∙ rw (uncovered-none (reading o newer .sections) a (p .0), l .0) refl)
 
@@ -92,12 +93,50 @@ module _ (o : ByteOrder) (m older newer mem : List ℕ) (a : ℕ) (both : BothLo
 pub found-loads : FoundLoads
 found-loads o m older newer mem a both one = by-table o m older newer mem a both one (findAnswer o older newer a .table) refl
 
--- What finding refuses is refused as in the join.
+-- ---- refusals
+
+module _ (o : ByteOrder) (older newer : List ℕ) (a room : ℕ) where
+  -- what each answers where the older table has a fault, and where the newer has
+  older-fault : (formOf o older .number ≡ 0 → ⊥)
+      → (joinAnswer o older newer room ≡ joinRefused (formOf o older .number) (formOf o older .place) 1)
+      × (findAnswer o older newer a ≡ findRefused (formOf o older .number) (formOf o older .place) 1)
+  older-fault f = (sym (first-refused o older newer room _ refl f), sym (find-first o older newer a (fault-walked o older a f)))
+
+  newer-fault : formOf o older .number ≡ 0 → (formOf o newer .number ≡ 0 → ⊥)
+      → (joinAnswer o older newer room ≡ joinRefused (formOf o newer .number) (formOf o newer .place) 2)
+      × (findAnswer o older newer a ≡ findRefused (formOf o newer .number) (formOf o newer .place) 2)
+  newer-fault f g = (
+    sym (second-refused o older newer room _ refl f _ refl g),
+    sym (find-second o older newer a (well-walked o older a (form-well o older f)) (fault-walked o newer a g)),
+  )
+
+  -- where neither has, the join speaks of no table
+  no-fault : formOf o older .number ≡ 0 → formOf o newer .number ≡ 0 → joinAnswer o older newer room .which ≡ 0
+  no-fault f g =
+      by-cases (decLe (joinedLength older newer) tableLimit)
+      (λ h. by-cases (decLe (joinedLength older newer) room)
+      (λ k. ap (λ (r : Joined). r .which) (sym (join-done o older newer room _ refl f _ refl g h k)))
+      (λ k. ap (λ (r : Joined). r .which) (sym (output-short o older newer room _ refl f _ refl g h (omega arith)))))
+      (λ h. ap (λ (r : Joined). r .which) (sym (join-long o older newer room _ refl f _ refl g (omega arith))))
+
+  find-joined : (findAnswer o older newer a .number ≡ 0 → ⊥)
+      → joinAnswer o older newer room ≡ joinRefused (findAnswer o older newer a .number) (findAnswer o older newer a .place) (findAnswer o older newer a .table)
+  find-joined n =
+      by-cases (ℕ-discrete (formOf o older .number) 0)
+      (λ f. by-cases (ℕ-discrete (formOf o newer .number) 0)
+      (λ g. absurd (n (finding .accepted o older newer a .1 (form-well o older f, form-well o newer g))))
+      (λ g. let e = newer-fault f g in rw (e .1) (e .0)))
+      (λ f. let e = older-fault f in rw (e .1) (e .0))
+
+  join-found : (joinAnswer o older newer room .which ≡ 0 → ⊥)
+      → findAnswer o older newer a ≡ findRefused (joinAnswer o older newer room .number) (joinAnswer o older newer room .place) (joinAnswer o older newer room .which)
+  join-found n =
+      by-cases (ℕ-discrete (formOf o older .number) 0)
+      (λ f. by-cases (ℕ-discrete (formOf o newer .number) 0)
+      (λ g. absurd (n (no-fault f g)))
+      (λ g. let e = newer-fault f g in rw (e .0) (e .1)))
+      (λ f. let e = older-fault f in rw (e .0) (e .1))
+
+-- A table is refused as in the join.
 pub refused-as-join : RefusedAsJoin
-refused-as-join o older newer a room n =
-    by-cases (ℕ-discrete (formOf o older .number) 0)
-    (λ f. by-cases (ℕ-discrete (formOf o newer .number) 0)
-    (λ g. absurd (n (finding .accepted o older newer a .1 (form-well o older f, form-well o newer g))))
-    (λ g. sym (second-refused o older newer room _ refl f _ refl g)
-    ∙ ap (λ (r : Found). joinRefused (r .number) (r .place) (r .table)) (find-second o older newer a (well-walked o older a (form-well o older f)) (fault-walked o newer a g))))
-    (λ f. sym (first-refused o older newer room _ refl f) ∙ ap (λ (r : Found). joinRefused (r .number) (r .place) (r .table)) (find-first o older newer a (fault-walked o older a f)))
+refused-as-join = record { find-join = find-joined; join-find = join-found }

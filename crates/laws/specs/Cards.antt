@@ -405,7 +405,7 @@ cards =
     Find HighFirst tableP tableQ 0x00800005 (found 0 0 0 24) [] ∷
     -- older Q, newer P
     Find HighFirst tableQ tableP 0x00800004 (found 2 14 1 24) (0xA3 ∷ []) ∷
-    -- in one table the last section decides, and its neighbour where it does not cover
+    -- in one table the last section decides, and the one before it where the last does not cover
     Find HighFirst joinPQ noSections 0x00800004 (found 1 24 1 24) (0xB7 ∷ []) ∷
     Find HighFirst joinPQ noSections 0x00800003 (found 1 13 2 24) (0xA2 ∷ 0xA3 ∷ []) ∷
     Find HighFirst noSections joinQP 0x00800004 (found 2 26 1 24) (0xA3 ∷ []) ∷

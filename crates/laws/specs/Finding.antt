@@ -10,7 +10,7 @@ use Rattle.boot_table.specs.Table.{reading}
 use Rattle.boot_table.specs.Meaning.{times}
 use Rattle.loader.specs.Load.{loadAnswer, loadMemory}
 use Rattle.joiner.specs.Join.{joinRefused, joinAnswer}
-use Rattle.query.specs.Find.{findAnswer, partBytes}
+use Rattle.query.specs.Find.{findRefused, findAnswer, partBytes}
 use Rattle.laws.specs.Demand3.{IsAccepted}
 
 -- the older table loads, and the newer into what the older left
@@ -38,7 +38,9 @@ pub record Stands (o : ByteOrder) (m older newer mem : List ℕ) (a : ℕ) : Typ
 abbrev pub FoundLoads : Type 0
 FoundLoads = (o : ByteOrder) (m older newer mem : List ℕ) (a : ℕ) → BothLoad o m older newer mem → OneCovers o older newer a → Stands o m older newer mem a
 
--- What finding refuses, joining the older table with the newer refuses with the same number and place, of the same table, whatever the output.
-abbrev pub RefusedAsJoin : Type 0
-RefusedAsJoin = (o : ByteOrder) (older newer : List ℕ) (a room : ℕ) → (findAnswer o older newer a .number ≡ 0 → ⊥)
-    → joinAnswer o older newer room ≡ joinRefused (findAnswer o older newer a .number) (findAnswer o older newer a .place) (findAnswer o older newer a .table)
+-- A table is refused as in the join of the older with the newer, whatever the output: of the same table with the same number and place. (The join's other refusals, for its length and for the output, speak of no table.)
+pub record RefusedAsJoin : Type 0 where
+  pub find-join : (o : ByteOrder) (older newer : List ℕ) (a room : ℕ) → (findAnswer o older newer a .number ≡ 0 → ⊥)
+      → joinAnswer o older newer room ≡ joinRefused (findAnswer o older newer a .number) (findAnswer o older newer a .place) (findAnswer o older newer a .table)
+  pub join-find : (o : ByteOrder) (older newer : List ℕ) (a room : ℕ) → (joinAnswer o older newer room .which ≡ 0 → ⊥)
+      → findAnswer o older newer a ≡ findRefused (joinAnswer o older newer room .number) (joinAnswer o older newer room .place) (joinAnswer o older newer room .which)

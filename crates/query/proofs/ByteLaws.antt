@@ -24,9 +24,9 @@ uncovered-none (s ∷ ss) a e = go (covers s a) refl (uncovered-none ss a)
     go false c later = rw (c, later (sym (times-no s ss a c) ∙ e)) refl
 
 -- the part begins with the last byte for the address
-pub covers-byte : (ss : List Sect) (a : ℕ) (bytes : List ℕ) → LastCovers ss a bytes → (lastByte ss a ≡ some (getD bytes 0 0)) × (1 ≤ length bytes)
+pub covers-byte : (at : ℕ) (ss : List Sect) (a offset : ℕ) (bytes : List ℕ) → LastCovers at ss a offset bytes → (lastByte ss a ≡ some (getD bytes 0 0)) × (1 ≤ length bytes)
 unfolding lastByte byteFor
-covers-byte ss a bytes l =
+covers-byte at ss a offset bytes l =
     let s = l .section in
     let k : ℕ = a - s .address in
     let b = covers-true s a (l .covered) in

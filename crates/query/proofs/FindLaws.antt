@@ -3,11 +3,13 @@ use Prim.Native.Nat.{ℕ, _+_, _-_, _*_, _≤_, _<_}
 use mathlib.Core.Path.{_≡_, refl, sym, ap, _∙_}
 use mathlib.Core.Logic.{by-cases}
 use mathlib.Core.List.{List}
-use mathlib.Core.Bool.{true, false}
+use mathlib.Core.Bool.{Bool, true, false, _&&_}
+use native.Mathlib.Nat.{add-zero}
 use native.Mathlib.Omega.{arith}
 use native.Mathlib.Decide.{ℕ-discrete}
 use borrow.Author.Tests.{ne-eqb}
 use lib.ListN.{length, take, drop}
+use lib.Dec.{eqb}
 use Rattle.words.specs.declared.ByteOrder.{ByteOrder}
 use Rattle.words.proofs.ChoiceLaws.{if-both}
 use Rattle.boot_table.specs.Table.{reading}
@@ -18,8 +20,8 @@ use Rattle.query.specs.declared.Hit.the-variants.{Nowhere, At}
 use Rattle.query.specs.declared.Walk.{Walk}
 use Rattle.query.specs.declared.Walk.the-variants.{Whole, Faulty}
 use Rattle.query.specs.declared.Found.{Found}
-use Rattle.query.specs.Find.{headerWalk, walked, findRefused, foundIn, findIn, findAnswer, inNewer, chosen, partBytes, partStart}
-use Rattle.query.specs.Covering.{Says, Finding}
+use Rattle.query.specs.Find.{headerWalk, walked, findRefused, fromHits, fromWalks, findAnswer, inNewer, chosen, partBytes, partStart}
+use Rattle.query.specs.Covering.{NoPart, Says, Refuses, Finding}
 use Rattle.query.proofs.HitLaws.{read-count, HitSays, walk-says}
 
 -- ---- one table
@@ -64,20 +66,20 @@ module _ (o : ByteOrder) (older newer : List ℕ) (a : ℕ) where
   -- the answer by what the walks came to
   pub find-first : {number place : ℕ} → walked o older a ≡ Faulty number place → findRefused number place 1 ≡ findAnswer o older newer a
   unfolding findAnswer
-  find-first e = sym (ap (λ (w : Walk). findIn w (walked o newer a)) e)
+  find-first e = sym (ap (λ (w : Walk). fromWalks w (walked o newer a)) e)
 
   pub find-second : {h : Hit} {n number place : ℕ} → walked o older a ≡ Whole h n → walked o newer a ≡ Faulty number place
       → findRefused number place 2 ≡ findAnswer o older newer a
   unfolding findAnswer
-  find-second {h} {n} e f = sym (ap (λ (w : Walk). findIn w (walked o newer a)) e ∙ ap (findIn (Whole h n)) f)
+  find-second {h} {n} e f = sym (ap (λ (w : Walk). fromWalks w (walked o newer a)) e ∙ ap (fromWalks (Whole h n)) f)
 
-  pub find-both : {h k : Hit} {n m : ℕ} → walked o older a ≡ Whole h n → walked o newer a ≡ Whole k m → foundIn h k (n + m) ≡ findAnswer o older newer a
+  pub find-both : {h k : Hit} {n m : ℕ} → walked o older a ≡ Whole h n → walked o newer a ≡ Whole k m → fromHits h k (n + m) ≡ findAnswer o older newer a
   unfolding findAnswer
-  find-both {h} {k} {n} {m} e f = sym (ap (λ (w : Walk). findIn w (walked o newer a)) e ∙ ap (findIn (Whole h n)) f)
+  find-both {h} {k} {n} {m} e f = sym (ap (λ (w : Walk). fromWalks w (walked o newer a)) e ∙ ap (fromWalks (Whole h n)) f)
 
   -- two well-formed tables have an answer
   pub find-well : WellFormed o older → WellFormed o newer
-      → foundIn (headerWalk o older a .hit) (headerWalk o newer a .hit) (headerWalk o older a .read + headerWalk o newer a .read) ≡ findAnswer o older newer a
+      → fromHits (headerWalk o older a .hit) (headerWalk o newer a .hit) (headerWalk o older a .read + headerWalk o newer a .read) ≡ findAnswer o older newer a
   find-well v w = find-both (well-walked o older a v) (well-walked o newer a w)
 
   -- and no others
@@ -89,43 +91,77 @@ module _ (o : ByteOrder) (older newer : List ℕ) (a : ℕ) where
       go (Whole h n) (Faulty number place) e f = absurd (faulty-number o newer a f (ap (λ (r : Found). r .number) (find-second e f) ∙ z))
       go (Whole h n) (Whole k m) e f = (walked-well o older a e, walked-well o newer a f)
 
-found-number : (h k : Hit) (read : ℕ) → foundIn h k read .number ≡ 0
+found-number : (h k : Hit) (read : ℕ) → fromHits h k read .number ≡ 0
 found-number Nowhere Nowhere read = refl
 found-number Nowhere (At offset size) read = refl
 found-number (At offset size) Nowhere read = refl
 found-number (At offset size) (At offset′ size′) read = refl
 
+-- an answer that does not name the newer table, with offset and length zero, tells of no part
+no-part : (older newer : List ℕ) (r : Found) → inNewer r ≡ false → r .offset ≡ 0 → r .length ≡ 0 → NoPart older newer r
+unfolding partBytes partStart chosen
+no-part older newer r other offset size = record {
+  bytes = rw size refl;
+  start = λ p q. rw (other, offset) (λ i. (p .0, add-zero (p .1) i));
+}
+
 -- what the answer for two hits says, by what the hits say
 module _ (o : ByteOrder) (older newer : List ℕ) (a read : ℕ)
     (count : read ≡ 8 * (length (reading o older .sections) + length (reading o newer .sections)) + 4 + 4) where
-  hits-say : (h k : Hit) → HitSays (reading o older .sections) older a h → HitSays (reading o newer .sections) newer a k → Says o older newer a (foundIn h k read)
+  hits-say : (h k : Hit) → HitSays 4 (reading o older .sections) older a h → HitSays 4 (reading o newer .sections) newer a k → Says o older newer a (fromHits h k read)
   unfolding partBytes chosen inNewer
-  hits-say h (At offset size) p q = record {
-    in-newer = λ e. q .0;
+  hits-say Nowhere Nowhere p q = record {
+    in-newer = λ e. absurd (omega arith);
     in-older = λ e. absurd (omega arith);
-    in-neither = λ e. absurd (omega arith);
+    in-neither = λ e. (q, p, refl, refl, no-part older newer (fromHits Nowhere Nowhere read) refl refl refl);
     tables = omega arith;
-    inside = q .1;
+    inside = omega arith;
     count = count;
   }
   hits-say (At offset size) Nowhere p q = record {
-    in-newer = λ e. absurd (omega arith);
     in-older = λ e. (q, p .0);
+    in-newer = λ e. absurd (omega arith);
     in-neither = λ e. absurd (omega arith);
     tables = omega arith;
     inside = p .1;
     count = count;
   }
-  hits-say Nowhere Nowhere p q = record {
-    in-newer = λ e. absurd (omega arith);
+  hits-say Nowhere (At offset size) p q = record {
     in-older = λ e. absurd (omega arith);
-    in-neither = λ e. (q, p, refl, refl);
+    in-newer = λ e. q .0;
+    in-neither = λ e. absurd (omega arith);
     tables = omega arith;
-    inside = omega arith;
+    inside = q .1;
+    count = count;
+  }
+  hits-say (At offset size) (At offset′ size′) p q = record {
+    in-older = λ e. absurd (omega arith);
+    in-newer = λ e. q .0;
+    in-neither = λ e. absurd (omega arith);
+    tables = omega arith;
+    inside = q .1;
     count = count;
   }
 
--- Every answer that is no refusal is given for two well-formed tables, and says which part stands at the address.
+-- what a refusal says, by what the walks came to
+walks-refuse : (o : ByteOrder) (older newer : List ℕ) (a : ℕ) → (findAnswer o older newer a .number ≡ 0 → ⊥) → Refuses older newer (findAnswer o older newer a)
+unfolding inNewer
+walks-refuse o older newer a n = go (walked o older a) (walked o newer a) refl refl
+  where
+    refused : (number place table : ℕ) → 1 ≤ table → table ≤ 2 → findRefused number place table ≡ findAnswer o older newer a → Refuses older newer (findAnswer o older newer a)
+    refused number place table l h e =
+        rw (← e) (record {
+          table = (l, h);
+          zero = (refl, refl, refl);
+          none = no-part older newer (findRefused number place table) (ap (λ (b : Bool). b && eqb table 2) (ne-eqb number 0 (rw (← e) at n))) refl refl;
+        })
+
+    go : (x y : Walk) → walked o older a ≡ x → walked o newer a ≡ y → Refuses older newer (findAnswer o older newer a)
+    go (Faulty number place) y e f = refused number place 1 (omega arith) (omega arith) (find-first o older newer a e)
+    go (Whole h i) (Faulty number place) e f = refused number place 2 (omega arith) (omega arith) (find-second o older newer a e f)
+    go (Whole h i) (Whole k m) e f = absurd (n (ap (λ (r : Found). r .number) (sym (find-both o older newer a e f)) ∙ found-number h k (i + m)))
+
+-- Every answer that is no refusal is given for two well-formed tables, and says which part stands at the address; a refusal tells of no part.
 pub finding : Finding
 unfolding headerWalk
 finding = record {
@@ -140,27 +176,17 @@ finding = record {
       rw (← (find-well o older newer a (w .0) (w .1)))
       (hits-say o older newer a (headerWalk o older a .read + headerWalk o newer a .read) (omega arith) (headerWalk o older a .hit) (headerWalk o newer a .hit)
       (walk-says o older a (w .0)) (walk-says o newer a (w .1)));
+  refuses = walks-refuse;
 }
 
 -- ---- the part
-
--- a refusal tells of no part, and counts nothing
-pub find-blank : (o : ByteOrder) (older newer : List ℕ) (a : ℕ) → (findAnswer o older newer a .number ≡ 0 → ⊥)
-    → (findAnswer o older newer a .offset ≡ 0) × (findAnswer o older newer a .length ≡ 0) × (findAnswer o older newer a .read ≡ 0)
-find-blank o older newer a n = go (walked o older a) (walked o newer a) refl refl
-  where
-    go : (x y : Walk) → walked o older a ≡ x → walked o newer a ≡ y
-        → (findAnswer o older newer a .offset ≡ 0) × (findAnswer o older newer a .length ≡ 0) × (findAnswer o older newer a .read ≡ 0)
-    go (Faulty number place) y e f = rw (← (find-first o older newer a e)) (refl, refl, refl)
-    go (Whole h i) (Faulty number place) e f = rw (← (find-second o older newer a e f)) (refl, refl, refl)
-    go (Whole h i) (Whole k m) e f = absurd (n (ap (λ (r : Found). r .number) (sym (find-both o older newer a e f)) ∙ found-number h k (i + m)))
 
 -- the part lies inside its table, of every answer
 pub find-inside : (o : ByteOrder) (older newer : List ℕ) (a : ℕ) (r : Found) → r ≡ findAnswer o older newer a → r .offset + r .length ≤ length (chosen r older newer)
 find-inside o older newer a r e =
     rw e (by-cases (ℕ-discrete (findAnswer o older newer a .number) 0)
     (λ z. finding .says o older newer a z .inside)
-    (λ n. let b = find-blank o older newer a n in omega arith))
+    (λ n. let b = walks-refuse o older newer a n .zero in omega arith))
 
 -- so it ends below any bound on the lengths of both tables
 pub find-fits : (o : ByteOrder) (older newer : List ℕ) (a n : ℕ) (r : Found) → r ≡ findAnswer o older newer a → length older < n → length newer < n → r .offset + r .length < n

@@ -20,18 +20,18 @@ use Rattle.boot_table.proofs.ReadLaws.{read-section, step-ind}
 use Rattle.query.specs.declared.Hit.{Hit}
 use Rattle.query.specs.declared.Hit.the-variants.{Nowhere}
 use Rattle.query.specs.Find.{latest, walked, findAnswer}
-use Rattle.query.specs.Walk.{hitIn}
+use Rattle.query.specs.OneSection.{hitIn}
 use Rattle.query.specs.Headers.{inHeader, headerFrom, SameHeaders, HeadersOnly}
 use Rattle.query.proofs.WalkLaws.{resume, walk-long, walk-cut, walk-start, walk-section, walk-end, walk-fault}
 
 -- ---- the bytes of a header
 
 -- an offset among n from at on
-in-span : (at i n : ℕ) → at ≤ i → i < at + n → (leb at i && ltb i (at + n)) ≡ true
+pub in-span : (at i n : ℕ) → at ≤ i → i < at + n → (leb at i && ltb i (at + n)) ≡ true
 in-span at i n h k = simp (le-leb at i h, lt-ltb i (at + n) k)
 
 -- the size word is one
-in-size : (o : ByteOrder) (t : List ℕ) (at k : ℕ) → k < 4 → inHeader o t at (at + k) ≡ true
+pub in-size : (o : ByteOrder) (t : List ℕ) (at k : ℕ) → k < 4 → inHeader o t at (at + k) ≡ true
 unfolding inHeader
 in-size o t at k h =
     if-both (λ (n : ℕ). (leb at (at + k) && ltb (at + k) (at + n)) ≡ true) (eqb (headerAt o t at) 0) _ _

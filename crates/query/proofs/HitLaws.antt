@@ -17,7 +17,7 @@ use Rattle.boot_table.proofs.MeaningLaws.{covers-true, times-no}
 use Rattle.query.specs.declared.Hit.{Hit}
 use Rattle.query.specs.declared.Hit.the-variants.{Nowhere, At}
 use Rattle.query.specs.Find.{hitOf, latest, passing, walkFrom, headerWalk}
-use Rattle.query.specs.Covering.{Uncovered, LastCovers}
+use Rattle.query.specs.Covering.{Uncovered, offsetAfter, LastCovers}
 
 -- ---- the bytes that are read
 
@@ -29,20 +29,23 @@ read-count at (s ∷ ss) a = let more = read-count (nextOf at (length (s .body))
 
 -- ---- the hit
 
--- what a hit in the table t says of the sections ss
-abbrev pub HitSays : List Sect → List ℕ → ℕ → Hit → Type 0
-HitSays ss t a Nowhere = Uncovered ss a
-HitSays ss t a (At offset size) = (LastCovers ss a (take size (drop offset t))) × (offset + size ≤ length t)
+-- what a hit in the table t says of the sections ss from offset at on
+abbrev pub HitSays : ℕ → List Sect → List ℕ → ℕ → Hit → Type 0
+HitSays at ss t a Nowhere = Uncovered ss a
+HitSays at ss t a (At offset size) = (LastCovers at ss a offset (take size (drop offset t))) × (offset + size ≤ length t)
 
 -- a later section covers it, so a section before those changes nothing
-covers-later : (s : Sect) {ss : List Sect} {a : ℕ} {bytes : List ℕ} → LastCovers ss a bytes → LastCovers (s ∷ ss) a bytes
-covers-later s l = record {
+covers-later : (at next : ℕ) (s : Sect) → nextOf at (length (s .body)) ≡ next → {ss : List Sect} {a offset : ℕ} {bytes : List ℕ}
+    → LastCovers next ss a offset bytes → LastCovers at (s ∷ ss) a offset bytes
+unfolding offsetAfter
+covers-later at next s e l = record {
   section = l .section;
   earlier = s ∷ l .earlier;
   later = l .later;
   among = ap (λ (xs : List Sect). s ∷ xs) (l .among);
   covered = l .covered;
   last = l .last;
+  place = rw e (l .place);
   run = l .run;
 }
 
@@ -62,8 +65,8 @@ module _ (o : ByteOrder) (t : List ℕ) (at : ℕ) {address size start next : �
   here = sectionAt t at address size
 
   -- it covers the address
-  covers-here : covers here a ≡ true → HitSays (here ∷ ss) t a (hitOf at here a)
-  unfolding hitOf
+  covers-here : covers here a ≡ true → HitSays at (here ∷ ss) t a (hitOf at here a)
+  unfolding hitOf offsetAfter
   covers-here e =
       let l = length-body o t at i in
       let b = covers-true here a e in
@@ -72,26 +75,26 @@ module _ (o : ByteOrder) (t : List ℕ) (at : ℕ) {address size start next : �
       let bytes : take (size - k) (drop (start + k) t) ≡ drop k (here .body) =
       rest-of-run t start size k (omega arith) (omega (arith, i .start-is, i .next-is, i .within)) ∙ ap (drop k) (sym (body-is o t at i)) in
       rw (e, l) (
-        record { section = here; earlier = []; later = ss; among = refl; covered = e; last = none-later; run = rw (← d) bytes },
+        record { section = here; earlier = []; later = ss; among = refl; covered = e; last = none-later; place = refl; run = rw (← d) bytes },
         omega (arith, i .next-is, i .within),
       )
 
   -- it does not
-  misses-here : covers here a ≡ false → HitSays (here ∷ ss) t a (hitOf at here a)
+  misses-here : covers here a ≡ false → HitSays at (here ∷ ss) t a (hitOf at here a)
   unfolding hitOf
   misses-here e = rw e (times-no here ss a e ∙ none-later)
 
-  hit-here : HitSays (here ∷ ss) t a (hitOf at here a)
+  hit-here : HitSays at (here ∷ ss) t a (hitOf at here a)
   hit-here = go (covers here a) refl
     where
-      go : (b : Bool) → covers here a ≡ b → HitSays (here ∷ ss) t a (hitOf at here a)
+      go : (b : Bool) → covers here a ≡ b → HitSays at (here ∷ ss) t a (hitOf at here a)
       go true e = covers-here e
       go false e = misses-here e
 
 -- the hit of the walk from an offset on says what it does of the sections that are read there
-hit-says : (o : ByteOrder) (t : List ℕ) (a at : ℕ) → HitSays (readOn o t at .sections) t a (walkFrom at (readOn o t at .sections) a .hit)
+hit-says : (o : ByteOrder) (t : List ℕ) (a at : ℕ) → HitSays at (readOn o t at .sections) t a (walkFrom at (readOn o t at .sections) a .hit)
 unfolding walkFrom before passing times
-hit-says o t a = step-ind o t (λ (at : ℕ). HitSays (readOn o t at .sections) t a (walkFrom at (readOn o t at .sections) a .hit))
+hit-says o t a = step-ind o t (λ (at : ℕ). HitSays at (readOn o t at .sections) t a (walkFrom at (readOn o t at .sections) a .hit))
     (λ at e. rw (read-end o t at e) refl)
     (λ at number place e. rw (read-fault o t at e) refl)
     (λ at address size start next e on.
@@ -99,12 +102,12 @@ hit-says o t a = step-ind o t (λ (at : ℕ). HitSays (readOn o t at .sections) 
     let rest : List Sect = readOn o t next .sections in
     rw (read-section o t at e, next-at o t at i) (go at i rest (walkFrom next rest a .hit) on))
   where
-    go : (at : ℕ) {address size start next : ℕ} → IsSection o t at address size start next → (rest : List Sect) (h : Hit) → HitSays rest t a h
-        → HitSays (sectionAt t at address size ∷ rest) t a (latest (hitOf at (sectionAt t at address size) a) h)
+    go : (at : ℕ) {address size start next : ℕ} → IsSection o t at address size start next → (rest : List Sect) (h : Hit) → HitSays next rest t a h
+        → HitSays at (sectionAt t at address size ∷ rest) t a (latest (hitOf at (sectionAt t at address size) a) h)
     go at i rest Nowhere none-later = hit-here o t at i rest a none-later
-    go at {address} {size} i rest (At offset n) (l, within) = (covers-later (sectionAt t at address size) l, within)
+    go at {address} {size} {start} {next} i rest (At offset n) (l, within) = (covers-later at next (sectionAt t at address size) (next-at o t at i) l, within)
 
 -- so in a well-formed table
-pub walk-says : (o : ByteOrder) (t : List ℕ) (a : ℕ) → WellFormed o t → HitSays (reading o t .sections) t a (headerWalk o t a .hit)
+pub walk-says : (o : ByteOrder) (t : List ℕ) (a : ℕ) → WellFormed o t → HitSays 4 (reading o t .sections) t a (headerWalk o t a .hit)
 unfolding headerWalk
 walk-says o t a w = rw (well-read o t w .0) (hit-says o t a 4)

@@ -2,4 +2,5 @@ pub mod WalkLaws
 pub mod HitLaws
 pub mod FindLaws
 pub mod HeaderLaws
+pub mod CountLaws
 pub mod ByteLaws

@@ -25,7 +25,7 @@ use Rattle.query.specs.declared.Hit.the-variants.{Nowhere, At}
 use Rattle.query.specs.declared.Walk.{Walk}
 use Rattle.query.specs.declared.Walk.the-variants.{Whole, Faulty}
 use Rattle.query.specs.Find.{hitOf, latest, passing, walkFrom, headerWalk, walked}
-use Rattle.query.specs.Walk.{hitIn}
+use Rattle.query.specs.OneSection.{hitIn}
 
 -- ---- the later of two hits
 
@@ -64,7 +64,7 @@ unfolding resume before walkFrom passing
 resume-before a hit read at s r =
     let later = walkFrom (nextOf at (length (s .body))) (r .sections) a in
     let sum : read + (8 + later .read) ≡ read + 8 + later .read = omega arith in
-    rw (latest-latest hit (hitOf at s a) (later .hit), sum) refl
+    ap (λ (w : Walk). if (eqb (r .fault) 0) w (Faulty (r .fault) (r .place))) (λ i. Whole (latest-latest hit (hitOf at s a) (later .hit) i) (sum i))
 
 module _ (o : ByteOrder) (t : List ℕ) (a : ℕ) where
   -- a table over the limit

@@ -61,20 +61,20 @@ abbrev pub foundPart : ℕ → ℕ → ℕ → ℕ → Found
 foundPart table offset size read = record { number = 0; place = 0; table = table; offset = offset; length = size; read = read }
 
 -- the answer for the hits in the older and the newer table: newer goes before older
-abbrev pub foundIn : Hit → Hit → ℕ → Found
-foundIn older (At offset size) read = foundPart 2 offset size read
-foundIn (At offset size) Nowhere read = foundPart 1 offset size read
-foundIn Nowhere Nowhere read = foundPart 0 0 0 read
+abbrev pub fromHits : Hit → Hit → ℕ → Found
+fromHits older (At offset size) read = foundPart 2 offset size read
+fromHits (At offset size) Nowhere read = foundPart 1 offset size read
+fromHits Nowhere Nowhere read = foundPart 0 0 0 read
 
 -- the answer for the walks over the two: the older table's fault, the newer's, or what was found, with the bytes read of both
-abbrev pub findIn : Walk → Walk → Found
-findIn (Faulty number place) newer = findRefused number place 1
-findIn (Whole hit read) (Faulty number place) = findRefused number place 2
-findIn (Whole hit read) (Whole hit′ read′) = foundIn hit hit′ (read + read′)
+abbrev pub fromWalks : Walk → Walk → Found
+fromWalks (Faulty number place) newer = findRefused number place 1
+fromWalks (Whole olderHit olderRead) (Faulty number place) = findRefused number place 2
+fromWalks (Whole olderHit olderRead) (Whole newerHit newerRead) = fromHits olderHit newerHit (olderRead + newerRead)
 
 -- what finding answers
 unfoldable pub findAnswer : ByteOrder → List ℕ → List ℕ → ℕ → Found
-findAnswer o older newer a = findIn (walked o older a) (walked o newer a)
+findAnswer o older newer a = fromWalks (walked o older a) (walked o newer a)
 
 -- ---- the second call
 

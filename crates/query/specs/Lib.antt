@@ -1,4 +1,4 @@
 pub mod Find
 pub mod Covering
 pub mod Headers
-pub mod Walk
+pub mod OneSection

@@ -1,8 +1,8 @@
 // What stands at an address in two boot tables, an older and a newer one. Of the tables only size and address words are read.
 ghost use mathlib.Core.Path.{_≡_};
 ghost use Prim.Native.Nat.{_+_, _^_, _≤_, _<_};
-ghost use Rattle.query.specs.Find.{latest, walked, findRefused, foundPart, foundIn, findAnswer, inNewer, partBytes, partStart};
-ghost use Rattle.query.specs.Walk.{hitIn};
+ghost use Rattle.query.specs.Find.{latest, walked, findRefused, foundPart, fromHits, findAnswer, inNewer, partBytes, partStart};
+ghost use Rattle.query.specs.OneSection.{hitIn};
 use boot_table::Step;
 use boot_table::TABLE_LIMIT;
 use boot_table::step_at;
@@ -36,9 +36,9 @@ enum Walk {
 }
 
 // The hit in a section of so many bytes from the address first on, whose data begins at start: its part begins at the byte
-// for the address and runs to the end of the data. How far the address is past first is counted round at 2^32: from an
-// address below first it is size or more, since no section is past the top, and so one test tells. With two, tables whose
-// sections stand in no order take half as long again.
+// for the address and runs to the end of the data. How far the address is past first is taken modulo 2^32: for an address
+// below first that is size or more, since no section is past the top, and so one test tells. With two, tables whose
+// sections stand in no order take half as long again (docs/BENCHMARK.md).
 fn hit_in(first: u32, size: usize, start: usize, address: u32) -> Hit
     requires { ⌜ (first + size ≤ 2 ^ 32) × (start + size < 2 ^ 64) ⌝ }
     ensures { λ r. ⌜ r ≡ hitIn first size start address ⌝ }
@@ -141,8 +141,8 @@ fn found_part(table: u32, offset: usize, length: usize, read: usize) -> Found
 }
 
 // The answer for the hits in two tables of which so many bytes were read. The newer goes before the older.
-fn found_in(older: Hit, newer: Hit, read: usize) -> Found
-    ensures { λ r. ⌜ r ≡ foundIn older newer read ⌝ }
+fn from_hits(older: Hit, newer: Hit, read: usize) -> Found
+    ensures { λ r. ⌜ r ≡ fromHits older newer read ⌝ }
 {
     match newer {
         Hit::At { offset, length } => found_part(2, offset, length, read),
@@ -167,7 +167,7 @@ pub fn find(older: &[u8], newer: &[u8], order: ByteOrder, address: u32) -> Found
             Walk::Whole {
                 hit: newer_hit,
                 read: newer_read,
-            } => found_in(older_hit, newer_hit, older_read + newer_read),
+            } => from_hits(older_hit, newer_hit, older_read + newer_read),
         },
     }
 }

@@ -703,9 +703,9 @@ fn find(
     print_orders(line, measure(&mut tables, groups));
 }
 
-/// Two tables of as many sections of one size, one after the other and the newer's
-/// past the older's, and the address of a byte in the middle of the older's. Answers
-/// the addresses of the sections.
+/// Two tables of so many sections each, of one size, one after the other and the
+/// newer's past the older's, and the address of a byte in the middle of the older's.
+/// Answers the addresses of the sections.
 fn find_rising(numbers: &mut Numbers, count: usize, size: usize) -> [Vec<u32>; 2] {
     let rows = Rows {
         sections: 2 * count,

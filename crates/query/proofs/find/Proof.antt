@@ -30,8 +30,8 @@ refused-requires-2 c κs = search needs
 enum-known-newer-hit : tie.Need-enum-known-newer-hit
 enum-known-newer-hit c = search needs
 
-add-found-in : tie.Need-add-found-in
-add-found-in c =
+add-from-hits : tie.Need-add-from-hits
+add-from-hits c =
     let n = c .before in
     let w = n .before .before in
     let h = w .before .before in
@@ -39,8 +39,8 @@ add-found-in c =
     let newer = read-few _ _ _ (sym (w .walk-headers2 .ensures) ∙ n .newer-hit .given .1) in
     omega (arith, older, newer)
 
-found-in-requires : tie.Need-found-in-requires
-found-in-requires c κs = search needs
+from-hits-requires : tie.Need-from-hits-requires
+from-hits-requires c κs = search needs
 
 returns : tie.Need-returns
 returns c =
@@ -60,7 +60,7 @@ returns-3 c =
     let n = c .before .before in
     let w = n .before .before in
     let h = w .before .before in
-    c .found-in .ensures
+    c .from-hits .ensures
     ∙ find-both _ _ _ _ (sym (h .before .before .walk-headers .ensures) ∙ h .older-hit .given .1) (sym (w .walk-headers2 .ensures) ∙ n .newer-hit .given .1)
 
 pub find-spec : {M : Type 1} → statement M
@@ -75,8 +75,8 @@ find-spec =
     enum-known-number-2
     refused-requires-2
     enum-known-newer-hit
-    add-found-in
-    found-in-requires
+    add-from-hits
+    from-hits-requires
     returns
     returns-2
     returns-3)

@@ -1,4 +1,4 @@
--- `query::hit_in`: counted round at 2^32, an address that the section does not cover is its size or more past its first one.
+-- `query::hit_in`: modulo 2^32, an address that the section does not cover is its size or more past its first one.
 use Prim.Native.Nat.{ℕ, _+_, _-_, _%_, _^_, _≤_, _<_}
 use mathlib.Core.Path.{_≡_, sym}
 use mathlib.Core.Logic.{by-cases}
@@ -7,7 +7,7 @@ use native.Mathlib.Decide.{decLe}
 use borrow.Author.Needs.{needs}
 use borrow.Author.Tests.{lt-leb, le-leb, lt-ltb, le-ltb}
 use Rattle.query.specs.declared.Hit.the-variants.{Nowhere, At}
-use Rattle.query.specs.Walk.{hitIn}
+use Rattle.query.specs.OneSection.{hitIn}
 use Rattle.query.proofs.hit_in.Statement.{statement}
 use Rattle.query.proofs.hit_in.Tie as tie
 

@@ -1,11 +1,11 @@
--- `query::found_in`: by the cases of the newer hit, and then of the older.
+-- `query::from_hits`: by the cases of the newer hit, and then of the older.
 use mathlib.Core.Path.{sym, ap, _∙_}
 use borrow.Author.Needs.{needs}
 use Rattle.query.specs.declared.Hit.{Hit}
 use Rattle.query.specs.declared.Hit.the-variants.{Nowhere}
-use Rattle.query.specs.Find.{foundIn}
-use Rattle.query.proofs.found_in.Statement.{statement}
-use Rattle.query.proofs.found_in.Tie as tie
+use Rattle.query.specs.Find.{fromHits}
+use Rattle.query.proofs.from_hits.Statement.{statement}
+use Rattle.query.proofs.from_hits.Tie as tie
 
 enum-known-newer : tie.Need-enum-known-newer
 enum-known-newer c = search needs
@@ -32,7 +32,7 @@ returns : tie.Need-returns
 returns c =
     let h = c .before .before in
     let a = h .before .before .args in
-    c .found-part .ensures ∙ sym (ap (λ (x : Hit). foundIn (a .older) x (a .read)) (h .newer .given .1))
+    c .found-part .ensures ∙ sym (ap (λ (x : Hit). fromHits (a .older) x (a .read)) (h .newer .given .1))
 
 returns-2 : tie.Need-returns-2
 returns-2 c =
@@ -40,7 +40,7 @@ returns-2 c =
     let n = h .before .before in
     let a = n .before .before .args in
     c .found-part2 .ensures
-    ∙ sym (ap (λ (x : Hit). foundIn (a .older) x (a .read)) (n .enum-told .given .1) ∙ ap (λ (x : Hit). foundIn x Nowhere (a .read)) (h .older .given .1))
+    ∙ sym (ap (λ (x : Hit). fromHits (a .older) x (a .read)) (n .enum-told .given .1) ∙ ap (λ (x : Hit). fromHits x Nowhere (a .read)) (h .older .given .1))
 
 returns-3 : tie.Need-returns-3
 returns-3 c =
@@ -48,10 +48,10 @@ returns-3 c =
     let n = h .before .before in
     let a = n .before .before .args in
     c .found-part3 .ensures
-    ∙ sym (ap (λ (x : Hit). foundIn (a .older) x (a .read)) (n .enum-told .given .1) ∙ ap (λ (x : Hit). foundIn x Nowhere (a .read)) (h .enum-told2 .given .1))
+    ∙ sym (ap (λ (x : Hit). fromHits (a .older) x (a .read)) (n .enum-told .given .1) ∙ ap (λ (x : Hit). fromHits x Nowhere (a .read)) (h .enum-told2 .given .1))
 
-pub found-in-spec : {M : Type 1} → statement M
-found-in-spec =
+pub from-hits-spec : {M : Type 1} → statement M
+from-hits-spec =
     tie.close
     (tie.spec
     enum-known-newer
