@@ -270,8 +270,7 @@ fn write_refuses((list, data): (&[ListSection], &[u8]), output: &[u8], number: u
     }
 }
 
-/// What is found at an address: the answer, and the part of a table that must stand
-/// where it stands there.
+/// What is found at an address: the answer, and the very slice that the part must be.
 #[track_caller]
 fn find_gives(
     (older, newer): (&[u8], &[u8]),

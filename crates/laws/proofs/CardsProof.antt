@@ -21,7 +21,7 @@ use Rattle.joiner.specs.Join.{joined, joinedLength, joinAnswer, joinOutput}
 use Rattle.writer.specs.declared.Written.{Written}
 use Rattle.writer.specs.Write.{dataOf, sectOf, sectsOf, writtenTable, faultOf, listRule, roomRule, writeAnswer, writeOutput}
 use Rattle.query.specs.declared.Found.{Found}
-use Rattle.query.specs.Find.{hitOf, passing, walkFrom, headerWalk, walked, findAnswer, inNewer, chosen, partBytes}
+use Rattle.query.specs.Find.{hitOf, passing, walkFrom, headerWalk, walked, findAnswer, inNewer, chosen, partBytes, foundBytes}
 use Rattle.boot_config.specs.declared.Configured.{Configured}
 use Rattle.boot_config.specs.Registers.{rising, fit, indexOf, masked, changedBits}
 use Rattle.boot_config.specs.Config.{unmaskedAt, entryAt, onEntry, appliedFrom, applied, configAnswer, configValues}
@@ -49,7 +49,7 @@ unfoldable given : Card → Outcome
 given (Load order m t memory answer after) = Loads (loadAnswer order m t (length memory)) (loadMemory order m t memory)
 given (Join order first second output answer after) = Joins (joinAnswer order first second (length output)) (joinOutput order first second output)
 given (Write order entry sections bytes output answer after) = Writes (writeAnswer order entry sections bytes (length output)) (writeOutput order entry sections bytes output)
-given (Find order older newer address answer bytes) = Finds (findAnswer order older newer address) (partBytes (findAnswer order older newer address) older newer)
+given (Find order older newer address answer bytes) = Finds (findAnswer order older newer address) (foundBytes order older newer address)
 given (Configure t addresses values answer after) = Configures (configAnswer t addresses values) (configValues t addresses values)
 given (Decode manner value answer) = Decodes (decodeAs manner value)
 given (DecodeShort value answer) = Decodes (decodeShort value)

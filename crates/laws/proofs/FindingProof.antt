@@ -22,7 +22,7 @@ use Rattle.joiner.specs.declared.Joined.{Joined}
 use Rattle.joiner.specs.Join.{joinedLength, joinRefused, joinAnswer}
 use Rattle.joiner.proofs.AnswerLaws.{first-refused, second-refused, join-long, output-short, join-done}
 use Rattle.query.specs.declared.Found.{Found}
-use Rattle.query.specs.Find.{findRefused, findAnswer, partBytes}
+use Rattle.query.specs.Find.{findRefused, findAnswer, foundBytes}
 use Rattle.query.specs.Covering.{Says}
 use Rattle.query.proofs.FindLaws.{finding, fault-walked, well-walked, find-first, find-second}
 use Rattle.query.proofs.ByteLaws.{uncovered-none, covers-byte}
@@ -36,7 +36,7 @@ module _ (o : ByteOrder) (m older newer mem : List ℕ) (a : ℕ) (both : BothLo
   answer = findAnswer o older newer a
 
   abbrev bytes : List ℕ
-  bytes = partBytes answer older newer
+  bytes = foundBytes o older newer a
 
   first : Accepted o m older (length mem)
   first = accepted-iff o m older (length mem) .0 (both .first)

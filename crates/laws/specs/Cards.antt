@@ -14,7 +14,7 @@ use Rattle.writer.specs.declared.Section.{Section}
 use Rattle.writer.specs.declared.Written.{Written}
 use Rattle.writer.specs.Write.{writeAnswer, writeOutput}
 use Rattle.query.specs.declared.Found.{Found}
-use Rattle.query.specs.Find.{findAnswer, partBytes}
+use Rattle.query.specs.Find.{findAnswer, foundBytes}
 use Rattle.boot_config.specs.declared.Configured.{Configured}
 use Rattle.boot_config.specs.Config.{configAnswer, configValues}
 use Rattle.boot_strap.specs.declared.Manner.{Manner}
@@ -43,7 +43,7 @@ abbrev pub Holds : Card → Type 0
 Holds (Load order map table memory answer after) = (loadAnswer order map table (length memory) ≡ answer) × (loadMemory order map table memory ≡ after)
 Holds (Join order first second output answer after) = (joinAnswer order first second (length output) ≡ answer) × (joinOutput order first second output ≡ after)
 Holds (Write order entry sections bytes output answer after) = (writeAnswer order entry sections bytes (length output) ≡ answer) × (writeOutput order entry sections bytes output ≡ after)
-Holds (Find order older newer address answer bytes) = (findAnswer order older newer address ≡ answer) × (partBytes (findAnswer order older newer address) older newer ≡ bytes)
+Holds (Find order older newer address answer bytes) = (findAnswer order older newer address ≡ answer) × (foundBytes order older newer address ≡ bytes)
 Holds (Configure table addresses values answer after) = (configAnswer table addresses values ≡ answer) × (configValues table addresses values ≡ after)
 Holds (Decode manner value answer) = decodeAs manner value ≡ answer
 Holds (DecodeShort value answer) = decodeShort value ≡ answer

@@ -10,7 +10,7 @@ use Rattle.boot_table.specs.Table.{reading}
 use Rattle.boot_table.specs.Meaning.{times}
 use Rattle.loader.specs.Load.{loadAnswer, loadMemory}
 use Rattle.joiner.specs.Join.{joinRefused, joinAnswer}
-use Rattle.query.specs.Find.{findRefused, findAnswer, partBytes}
+use Rattle.query.specs.Find.{findRefused, findAnswer, foundBytes}
 use Rattle.laws.specs.Demand3.{IsAccepted}
 
 -- the older table loads, and the newer into what the older left
@@ -28,11 +28,11 @@ pub record Stands (o : ByteOrder) (m older newer mem : List ℕ) (a : ℕ) : Typ
   pub accepted : findAnswer o older newer a .number ≡ 0
   pub named : 1 ≤ findAnswer o older newer a .table
   -- the part has a first byte
-  pub some : 1 ≤ length (partBytes (findAnswer o older newer a) older newer)
+  pub some : 1 ≤ length (foundBytes o older newer a)
   -- the address has a place in memory
   pub placed : placeOf m a < length (loadMemory o m newer (loadMemory o m older mem))
   -- and that byte stands there
-  pub byte : getD (loadMemory o m newer (loadMemory o m older mem)) (placeOf m a) 0 ≡ getD (partBytes (findAnswer o older newer a) older newer) 0 0
+  pub byte : getD (loadMemory o m newer (loadMemory o m older mem)) (placeOf m a) 0 ≡ getD (foundBytes o older newer a) 0 0
 
 -- So in every order, for all tables that load under one map and an address that one of them covers.
 abbrev pub FoundLoads : Type 0

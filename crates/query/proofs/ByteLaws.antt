@@ -30,7 +30,7 @@ covers-byte at ss a offset bytes l =
     let s = l .section in
     let k : ℕ = a - s .address in
     let b = covers-true s a (l .covered) in
-    let first : getD bytes 0 0 ≡ getD (s .body) k 0 = rw (l .run) (getD-drop k (s .body) 0 0 ∙ rw (add-zero k) refl) in (
+    let first : getD bytes 0 0 ≡ getD (s .body) k 0 = rw (l .bytes-are) (getD-drop k (s .body) 0 0 ∙ rw (add-zero k) refl) in (
       rw (l .among, first) (last-append (l .earlier) (s ∷ l .later) a ∙ rw (uncovered-none (l .later) a (l .last), l .covered) refl),
-      rw (l .run) (omega (arith, length-drop k (s .body))),
+      rw (l .bytes-are) (omega (arith, length-drop k (s .body))),
     )

@@ -92,10 +92,9 @@ module _ (o : ByteOrder) (older newer : List ℕ) (a : ℕ) where
       go (Whole h n) (Whole k m) e f = (walked-well o older a e, walked-well o newer a f)
 
 found-number : (h k : Hit) (read : ℕ) → fromHits h k read .number ≡ 0
-found-number Nowhere Nowhere read = refl
-found-number Nowhere (At offset size) read = refl
+found-number h (At offset size) read = refl
 found-number (At offset size) Nowhere read = refl
-found-number (At offset size) (At offset′ size′) read = refl
+found-number Nowhere Nowhere read = refl
 
 -- an answer that does not name the newer table, with offset and length zero, tells of no part
 no-part : (older newer : List ℕ) (r : Found) → inNewer r ≡ false → r .offset ≡ 0 → r .length ≡ 0 → NoPart older newer r
@@ -110,36 +109,28 @@ module _ (o : ByteOrder) (older newer : List ℕ) (a read : ℕ)
     (count : read ≡ 8 * (length (reading o older .sections) + length (reading o newer .sections)) + 4 + 4) where
   hits-say : (h k : Hit) → HitSays 4 (reading o older .sections) older a h → HitSays 4 (reading o newer .sections) newer a k → Says o older newer a (fromHits h k read)
   unfolding partBytes chosen inNewer
+  hits-say h (At offset size) p q = record {
+    in-newer = λ e. q .0;
+    in-older = λ e. absurd (omega arith);
+    in-neither = λ e. absurd (omega arith);
+    tables = omega arith;
+    inside = q .1;
+    count = count;
+  }
+  hits-say (At offset size) Nowhere p q = record {
+    in-newer = λ e. absurd (omega arith);
+    in-older = λ e. (q, p .0);
+    in-neither = λ e. absurd (omega arith);
+    tables = omega arith;
+    inside = p .1;
+    count = count;
+  }
   hits-say Nowhere Nowhere p q = record {
     in-newer = λ e. absurd (omega arith);
     in-older = λ e. absurd (omega arith);
     in-neither = λ e. (q, p, refl, refl, no-part older newer (fromHits Nowhere Nowhere read) refl refl refl);
     tables = omega arith;
     inside = omega arith;
-    count = count;
-  }
-  hits-say (At offset size) Nowhere p q = record {
-    in-older = λ e. (q, p .0);
-    in-newer = λ e. absurd (omega arith);
-    in-neither = λ e. absurd (omega arith);
-    tables = omega arith;
-    inside = p .1;
-    count = count;
-  }
-  hits-say Nowhere (At offset size) p q = record {
-    in-older = λ e. absurd (omega arith);
-    in-newer = λ e. q .0;
-    in-neither = λ e. absurd (omega arith);
-    tables = omega arith;
-    inside = q .1;
-    count = count;
-  }
-  hits-say (At offset size) (At offset′ size′) p q = record {
-    in-older = λ e. absurd (omega arith);
-    in-newer = λ e. q .0;
-    in-neither = λ e. absurd (omega arith);
-    tables = omega arith;
-    inside = q .1;
     count = count;
   }
 

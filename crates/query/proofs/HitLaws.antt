@@ -45,8 +45,8 @@ covers-later at next s e l = record {
   among = ap (λ (xs : List Sect). s ∷ xs) (l .among);
   covered = l .covered;
   last = l .last;
-  place = rw e (l .place);
-  run = l .run;
+  offset-is = rw e (l .offset-is);
+  bytes-are = l .bytes-are;
 }
 
 -- what is left of a run of size bytes from start on behind its first k
@@ -75,7 +75,7 @@ module _ (o : ByteOrder) (t : List ℕ) (at : ℕ) {address size start next : �
       let bytes : take (size - k) (drop (start + k) t) ≡ drop k (here .body) =
       rest-of-run t start size k (omega arith) (omega (arith, i .start-is, i .next-is, i .within)) ∙ ap (drop k) (sym (body-is o t at i)) in
       rw (e, l) (
-        record { section = here; earlier = []; later = ss; among = refl; covered = e; last = none-later; place = refl; run = rw (← d) bytes },
+        record { section = here; earlier = []; later = ss; among = refl; covered = e; last = none-later; offset-is = refl; bytes-are = rw (← d) bytes },
         omega (arith, i .next-is, i .within),
       )
 

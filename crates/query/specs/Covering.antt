@@ -21,7 +21,7 @@ unfoldable pub offsetAfter : ℕ → List Sect → ℕ
 offsetAfter at [] = at
 offsetAfter at (s ∷ ss) = offsetAfter (nextOf at (length (s .body))) ss
 
--- of the sections of a table the last one that covers the address, from offset at on: its data from the byte for the address on, which stands at the offset
+-- the section that decides: of ss, which stand from offset at on, the last that covers a. The byte for a stands at offset, and bytes are the section's data from that byte on
 pub record LastCovers (at : ℕ) (ss : List Sect) (a offset : ℕ) (bytes : List ℕ) : Type 0 where
   pub section : Sect
   pub earlier : List Sect
@@ -29,8 +29,8 @@ pub record LastCovers (at : ℕ) (ss : List Sect) (a offset : ℕ) (bytes : List
   pub among : ss ≡ earlier ++ (section ∷ later)
   pub covered : covers section a ≡ true
   pub last : Uncovered later a
-  pub place : offset ≡ offsetAfter at earlier + 8 + (a - section .address)
-  pub run : bytes ≡ drop (a - section .address) (section .body)
+  pub offset-is : offset ≡ offsetAfter at earlier + 8 + (a - section .address)
+  pub bytes-are : bytes ≡ drop (a - section .address) (section .body)
 
 -- r tells of no part: the part is the empty one at the older's start
 pub record NoPart (older newer : List ℕ) (r : Found) : Type 0 where

@@ -86,10 +86,17 @@ inNewer r = eqb (r .number) 0 && eqb (r .table) 2
 unfoldable pub chosen : {A : Type 0} → Found → A → A → A
 chosen r older newer = if (inNewer r) newer older
 
--- the bytes of the part: of its table, from the offset of r on, as many as the length of r; where r tells of no part, none of the older
+-- the bytes of the part that r tells of: of its table, from the offset of r on, as many as the length of r; where r tells of no part, none of the older
 unfoldable pub partBytes : Found → List ℕ → List ℕ → List ℕ
 partBytes r older newer = take (r .length) (drop (r .offset) (chosen r older newer))
 
--- where the part stands: at its table's start and the offset of r past it; where r tells of no part, at the older's start. A pointer is a block and an offset in it
+-- where that part stands: at its table's start and the offset of r past it; where r tells of no part, at the older's start. A pointer is a block and an offset in it
 unfoldable pub partStart : Found → ℕ × ℕ → ℕ × ℕ → ℕ × ℕ
 partStart r older newer = (chosen r older newer .0, chosen r older newer .1 + r .offset)
+
+-- the bytes of the part that stands at a, and where it stands; p is the older table's pointer, q the newer's
+abbrev pub foundBytes : ByteOrder → List ℕ → List ℕ → ℕ → List ℕ
+foundBytes o older newer a = partBytes (findAnswer o older newer a) older newer
+
+abbrev pub foundStart : ByteOrder → List ℕ → List ℕ → ℕ → ℕ × ℕ → ℕ × ℕ → ℕ × ℕ
+foundStart o older newer a p q = partStart (findAnswer o older newer a) p q

@@ -1,7 +1,7 @@
 // What stands at an address in two boot tables, an older and a newer one. Of the tables only size and address words are read.
 ghost use mathlib.Core.Path.{_≡_};
 ghost use Prim.Native.Nat.{_+_, _^_, _≤_, _<_};
-ghost use Rattle.query.specs.Find.{latest, walked, findRefused, foundPart, fromHits, findAnswer, inNewer, partBytes, partStart};
+ghost use Rattle.query.specs.Find.{latest, walked, findRefused, foundPart, fromHits, findAnswer, inNewer, foundBytes, foundStart};
 ghost use Rattle.query.specs.OneSection.{hitIn};
 use boot_table::Step;
 use boot_table::TABLE_LIMIT;
@@ -185,8 +185,8 @@ fn is_newer(found: Found) -> bool
 // The part that stands at an address, as find tells it: of the newer table or of the older, from the byte for the address
 // to the end of its section's data; or the empty part at the older's start.
 pub fn part<'a>(older: &'a [u8], newer: &'a [u8], order: ByteOrder, address: u32) -> &'a [u8]
-    ensures { λ r. ⌜ now r ≡ partBytes (findAnswer order (now (older .entry)) (now (newer .entry)) address) (now (older .entry)) (now (newer .entry)) ⌝ }
-    ensures { λ r. ⌜ r .ptr ≡ partStart (findAnswer order (now (older .entry)) (now (newer .entry)) address) (older .entry .ptr) (newer .entry .ptr) ⌝ }
+    ensures { λ r. ⌜ now r ≡ foundBytes order (now (older .entry)) (now (newer .entry)) address ⌝ }
+    ensures { λ r. ⌜ r .ptr ≡ foundStart order (now (older .entry)) (now (newer .entry)) address (older .entry .ptr) (newer .entry .ptr) ⌝ }
 {
     let found = find(older, newer, order, address);
     let from = found.offset;
