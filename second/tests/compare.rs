@@ -32,7 +32,7 @@ const OF_WRITES: &[usize] = &[8, 10, 11, 20, 21];
 /// The refusals of the calls that read no boot table.
 const OF_OTHERS: &[usize] = &[12, 13, 14, 15, 16, 17, 18, 19];
 /// A run with fewer cases is a quick look, of which so many are not asked for.
-const FEWEST: u64 = 200_000;
+const FEWEST: u64 = 300_000;
 /// Bytes before and after a lent buffer that no call may touch.
 const GUARD: usize = 16;
 
