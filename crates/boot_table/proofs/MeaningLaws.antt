@@ -2,9 +2,9 @@
 use Prim.Native.Nat.{ℕ, _+_, _≤_, _<_}
 use native.Mathlib.Nat.{zero-add}
 use native.Mathlib.Omega.{arith}
-use mathlib.Core.Path.{_≡_, refl, sym}
+use mathlib.Core.Path.{_≡_, refl, sym, _∙_}
 use mathlib.Core.List.{List, [], _∷_, _++_}
-use mathlib.Core.Bool.{true, false}
+use mathlib.Core.Bool.{Bool, true, false}
 use mathlib.Core.Option.{Option, none, some}
 use borrow.Author.Tests.{leb-true, le-leb, ltb-true, lt-ltb}
 use lib.ListN.{length}
@@ -66,3 +66,13 @@ pub last-append : (xs ys : List Sect) (a : ℕ) → lastByte (xs ++ ys) a ≡ or
 unfolding lastByte
 last-append [] ys a = sym (or-none (lastByte ys a))
 last-append (x ∷ xs) ys a = rw (last-append xs ys a) (sym (or-or (lastByte ys a) (lastByte xs a) _))
+
+-- sections that do not cover an address have no byte for it
+pub uncovered-none : (ss : List Sect) (a : ℕ) → times ss a ≡ 0 → lastByte ss a ≡ none
+unfolding lastByte
+uncovered-none [] a e = refl
+uncovered-none (s ∷ ss) a e = go (covers s a) refl (uncovered-none ss a)
+  where
+    go : (b : Bool) → covers s a ≡ b → (times ss a ≡ 0 → lastByte ss a ≡ none) → lastByte (s ∷ ss) a ≡ none
+    go true c later = absurd (omega (arith, times-yes s ss a c))
+    go false c later = rw (c, later (sym (times-no s ss a c) ∙ e)) refl

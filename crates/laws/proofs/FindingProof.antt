@@ -15,6 +15,7 @@ use Rattle.boot_table.specs.Table.{Sect, reading}
 use Rattle.boot_table.specs.Form.{tableLimit, formOf}
 use Rattle.boot_table.specs.Meaning.{lastByte}
 use Rattle.boot_table.proofs.FormLaws.{form-well}
+use Rattle.boot_table.proofs.MeaningLaws.{uncovered-none}
 use Rattle.loader.specs.Load.{loadMemory, Accepted}
 use Rattle.loader.proofs.LoadLaws.{accepted-iff, length-load, loaded-at}
 use Rattle.loader.proofs.SameLaws.{covered-open}
@@ -25,7 +26,7 @@ use Rattle.query.specs.declared.Found.{Found}
 use Rattle.query.specs.Find.{findRefused, findAnswer, foundBytes}
 use Rattle.query.specs.Covering.{Says}
 use Rattle.query.proofs.FindLaws.{finding, fault-walked, well-walked, find-first, find-second}
-use Rattle.query.proofs.ByteLaws.{uncovered-none, covers-byte}
+use Rattle.query.proofs.HitLaws.{covers-byte}
 use Rattle.laws.specs.Finding.{BothLoad, OneCovers, Stands, FoundLoads, RefusedAsJoin}
 
 module _ (o : ByteOrder) (m older newer mem : List ℕ) (a : ℕ) (both : BothLoad o m older newer mem) (one : OneCovers o older newer a) where

@@ -3,17 +3,19 @@ use Prim.Native.Nat.{ℕ, _+_, _-_, _*_, _≤_}
 use mathlib.Core.Path.{_≡_, refl, sym, ap, _∙_}
 use mathlib.Core.List.{List, [], _∷_, _++_}
 use mathlib.Core.Bool.{Bool, true, false}
+use mathlib.Core.Option.{some}
+use native.Mathlib.Nat.{add-zero}
 use native.Mathlib.Omega.{arith}
-use lib.ListN.{length, take, drop, length-drop}
-use lib.Seq.{length-take-le, take-add, drop-at, drop-drop}
+use lib.ListN.{length, getD, take, drop, length-drop}
+use lib.Seq.{length-take-le, take-add, drop-at, drop-drop, getD-drop}
 use Rattle.words.specs.declared.ByteOrder.{ByteOrder}
 use Rattle.boot_table.specs.Table.{Sect, nextOf, sectionAt, before, readOn, reading}
 use Rattle.boot_table.specs.Form.{WellFormed}
-use Rattle.boot_table.specs.Meaning.{covers, times}
+use Rattle.boot_table.specs.Meaning.{covers, times, byteFor, lastByte}
 use Rattle.boot_table.proofs.StepLaws.{IsSection, section-of, length-body, body-is, next-at}
 use Rattle.boot_table.proofs.ReadLaws.{read-section, read-end, read-fault, step-ind}
 use Rattle.boot_table.proofs.FormLaws.{well-read}
-use Rattle.boot_table.proofs.MeaningLaws.{covers-true, times-no}
+use Rattle.boot_table.proofs.MeaningLaws.{covers-true, times-no, last-append, uncovered-none}
 use Rattle.query.specs.declared.Hit.{Hit}
 use Rattle.query.specs.declared.Hit.the-variants.{Nowhere, At}
 use Rattle.query.specs.Find.{hitOf, latest, passing, walkFrom, headerWalk}
@@ -111,3 +113,15 @@ hit-says o t a = step-ind o t (λ (at : ℕ). HitSays at (readOn o t at .section
 pub walk-says : (o : ByteOrder) (t : List ℕ) (a : ℕ) → WellFormed o t → HitSays 4 (reading o t .sections) t a (headerWalk o t a .hit)
 unfolding headerWalk
 walk-says o t a w = rw (well-read o t w .0) (hit-says o t a 4)
+
+-- the part begins with the last byte that the sections have for the address
+pub covers-byte : (at : ℕ) (ss : List Sect) (a offset : ℕ) (bytes : List ℕ) → LastCovers at ss a offset bytes → (lastByte ss a ≡ some (getD bytes 0 0)) × (1 ≤ length bytes)
+unfolding lastByte byteFor
+covers-byte at ss a offset bytes l =
+    let s = l .section in
+    let k : ℕ = a - s .address in
+    let b = covers-true s a (l .covered) in
+    let first : getD bytes 0 0 ≡ getD (s .body) k 0 = rw (l .bytes-are) (getD-drop k (s .body) 0 0 ∙ rw (add-zero k) refl) in (
+      rw (l .among, first) (last-append (l .earlier) (s ∷ l .later) a ∙ rw (uncovered-none (l .later) a (l .last), l .covered) refl),
+      rw (l .bytes-are) (omega (arith, length-drop k (s .body))),
+    )

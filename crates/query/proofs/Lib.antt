@@ -3,4 +3,3 @@ pub mod HitLaws
 pub mod FindLaws
 pub mod HeaderLaws
 pub mod CountLaws
-pub mod ByteLaws

@@ -1,4 +1,4 @@
--- Which bytes of a table finding reads, that its answers depend on these alone, and that it counts them. t and u are tables, o their byte order.
+-- Which bytes of a table finding reads, that its answers depend on these alone, and that it counts them. A header here is that of a section, or the end word; the entry word is none. t and u are tables, o their byte order.
 use Prim.Native.Nat.{ℕ, zero, suc, _+_}
 use mathlib.Core.Path.{_≡_}
 use mathlib.Core.List.{List, [], _∷_}
