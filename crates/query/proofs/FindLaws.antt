@@ -108,12 +108,13 @@ no-part older newer r other offset size = record {
 module _ (o : ByteOrder) (older newer : List ℕ) (a read : ℕ)
     (count : read ≡ 8 * (length (reading o older .sections) + length (reading o newer .sections)) + 4 + 4) where
   hits-say : (h k : Hit) → HitSays 4 (reading o older .sections) older a h → HitSays 4 (reading o newer .sections) newer a k → Says o older newer a (fromHits h k read)
-  unfolding partBytes chosen inNewer
+  unfolding partBytes partStart chosen inNewer
   hits-say h (At offset size) p q = record {
     in-newer = λ e. q .0;
     in-older = λ e. absurd (omega arith);
     in-neither = λ e. absurd (omega arith);
     tables = omega arith;
+    starts = λ p q. (λ e. refl, λ e. absurd (omega arith));
     inside = q .1;
     count = count;
   }
@@ -122,6 +123,7 @@ module _ (o : ByteOrder) (older newer : List ℕ) (a read : ℕ)
     in-older = λ e. (q, p .0);
     in-neither = λ e. absurd (omega arith);
     tables = omega arith;
+    starts = λ p q. (λ e. absurd (omega arith), λ e. refl);
     inside = p .1;
     count = count;
   }
@@ -130,6 +132,7 @@ module _ (o : ByteOrder) (older newer : List ℕ) (a read : ℕ)
     in-older = λ e. absurd (omega arith);
     in-neither = λ e. (q, p, refl, refl, no-part older newer (fromHits Nowhere Nowhere read) refl refl refl);
     tables = omega arith;
+    starts = λ p q. (λ e. absurd (omega arith), λ e. absurd (omega arith));
     inside = omega arith;
     count = count;
   }

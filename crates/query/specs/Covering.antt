@@ -48,7 +48,9 @@ pub record Says (o : ByteOrder) (older newer : List ℕ) (a : ℕ) (r : Found) :
       → (Uncovered (reading o newer .sections) a) × (Uncovered (reading o older .sections) a) × (r .offset ≡ 0) × (r .length ≡ 0) × (NoPart older newer r)
   -- there is no other table
   pub tables : r .table ≤ 2
-  -- the part lies inside the table that is named
+  -- the part stands in the table that is named, at the offset; p is the older table's pointer, q the newer's
+  pub starts : (p q : ℕ × ℕ) → (r .table ≡ 2 → partStart r p q ≡ (q .0, q .1 + r .offset)) × (r .table ≡ 1 → partStart r p q ≡ (p .0, p .1 + r .offset))
+  -- and lies inside it
   pub inside : r .offset + r .length ≤ length (chosen r older newer)
   -- the bytes read are 8 for each section of both tables, and 4 for each of the two end words
   pub count : r .read ≡ 8 * (length (reading o older .sections) + length (reading o newer .sections)) + 4 + 4
