@@ -174,6 +174,28 @@ void tuneharbor_find(const uint8_t *older, size_t older_len,
                      const uint8_t *newer, size_t newer_len, bool low_first,
                      uint32_t address, uint64_t answer[6]);
 
+/* Rescues a boot table that is cut or damaged: the result is its entry address,
+ * its whole sections from the start up to the first fault, as they stand, pads
+ * too, and a zero word. A section that is cut short or past the top ends the
+ * run, and so does a zero word, also where bytes stand after it; those bytes are
+ * not used. The zero word is added where none stands behind the sections kept.
+ * A well-formed table comes back byte for byte. An output four bytes longer
+ * than the table always has room. The output past the result is unchanged.
+ *
+ * Refused, each with place 0, are TUNEHARBOR_TABLE_LONG; TUNEHARBOR_TABLE_CUT,
+ * only where the entry word is missing or cut; TUNEHARBOR_RESULT_LONG, where the
+ * added zero word would pass the limit; and then TUNEHARBOR_OUTPUT_SHORT.
+ *
+ * answer[0] number
+ * answer[1] place, always 0
+ * answer[2] the result's length in bytes
+ * answer[3] how many sections were kept
+ * answer[4] how many bytes of the table were not used
+ * answer[5] 1 where the zero word was added, 0 where it was present */
+void tuneharbor_rescue(const uint8_t *table, size_t table_len, bool low_first,
+                       uint8_t *output, size_t output_len,
+                       uint64_t answer[6]);
+
 /* Sets and clears bits of registers by a configuration table. A register has
  * its address and its value at one index of the two lists. Lists of different
  * lengths, of more than 1,024, or whose addresses do not strictly rise are

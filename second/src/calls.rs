@@ -5,7 +5,7 @@
 
 use crate::reference::{
     ByteOrder, ConfigAnswer, FindAnswer, JoinAnswer, LabelAnswer, ListSection, LoadAnswer,
-    MapAnswer, SameAnswer, StrapAnswer, WriteAnswer,
+    MapAnswer, RescueAnswer, SameAnswer, StrapAnswer, WriteAnswer,
 };
 
 extern "C" {
@@ -56,6 +56,14 @@ extern "C" {
         newer_len: usize,
         low_first: bool,
         address: u32,
+        answer: *mut u64,
+    );
+    fn tuneharbor_rescue(
+        table: *const u8,
+        table_len: usize,
+        low_first: bool,
+        output: *mut u8,
+        output_len: usize,
         answer: *mut u64,
     );
     fn tuneharbor_configure(
@@ -245,6 +253,29 @@ pub fn part<'a>(older: &'a [u8], newer: &'a [u8], order: ByteOrder, address: u32
         _ => older,
     };
     &table[answer.offset as usize..][..answer.length as usize]
+}
+
+pub fn rescue(table: &[u8], order: ByteOrder, output: &mut [u8]) -> RescueAnswer {
+    // Safety: the slices live through the call, output is lent to it alone;
+    // the answer has 6 elements.
+    let [number, place, length, sections, unused, added] = answered(|answer| unsafe {
+        tuneharbor_rescue(
+            table.as_ptr(),
+            table.len(),
+            low_first(order),
+            output.as_mut_ptr(),
+            output.len(),
+            answer,
+        )
+    });
+    RescueAnswer {
+        number,
+        place,
+        length,
+        sections,
+        unused,
+        added,
+    }
 }
 
 pub fn configure(table: &[u8], addresses: &[u32], values: &mut [u32]) -> ConfigAnswer {

@@ -1044,6 +1044,151 @@ pub fn find_case(numbers: &mut Numbers) -> FindCase {
     }
 }
 
+// Tables to rescue.
+
+/// A case for the rescue of a cut table.
+#[derive(Clone, Debug)]
+pub struct RescueCase {
+    pub table: Vec<u8>,
+    pub order: ByteOrder,
+    pub output: Vec<u8>,
+}
+
+/// How many bytes are left of a table of sections that is cut: in its entry word,
+/// right behind that, right before its zero word or in it; or at a section, right
+/// before its size word, in it, right behind it, in its address word, right behind
+/// that, in its data, in its pads or right behind them.
+fn cut_at(numbers: &mut Numbers, length: usize, sections: &[Section]) -> usize {
+    let end = length - 4;
+    if sections.is_empty() || numbers.once_in(3) {
+        return numbers.pick(&[0, 1, 2, 3, 4, end, end + 1, end + 2, end + 3]);
+    }
+    let index = numbers.index(sections.len());
+    let at = offsets(sections)[index];
+    let data = at + 8;
+    let data_end = data + sections[index].data.len();
+    let next = data_end + sections[index].pads.len();
+    let (low, high) = numbers.pick(&[
+        (at, at),
+        (at + 1, at + 3),
+        (at + 4, at + 4),
+        (at + 5, at + 7),
+        (data, data),
+        (data, data_end - 1),
+        (data_end, next),
+    ]);
+    numbers.from_to(low as u64, high as u64) as usize
+}
+
+/// Puts a fault in one section of a table, or what is next to one: a zero word in
+/// place of its size; a size up to the table's end, past it, or so large that a sum
+/// taken in 32 bits comes round; an address from which it runs to the top, or past
+/// it by one byte or by more.
+fn fault_in_section(
+    numbers: &mut Numbers,
+    bytes: &mut [u8],
+    sections: &[Section],
+    order: ByteOrder,
+) {
+    if sections.is_empty() {
+        return;
+    }
+    let index = numbers.index(sections.len());
+    let at = offsets(sections)[index];
+    let room = (bytes.len() - at - 8) as u32;
+    // One byte cannot run past the top; with a pad as data they are two.
+    let size = (sections[index].data.len() as u32).max(2);
+    let to_top = 0u32.wrapping_sub(size);
+    let address = sections[index].address;
+    let (size, address) = match numbers.below(8) {
+        0 => (0, address),
+        1 => (room, address),
+        2 => (room + numbers.pick(&[1, 1, 4, 5]), address),
+        3 => {
+            let sizes = [0x7FFF_FFFF, 0xFFFF_FFF5, 0xFFFF_FFF8, 0xFFFF_FFFC];
+            (numbers.pick(&sizes), numbers.pick(&[0, address]))
+        }
+        4 => {
+            let sizes = [0xFFFF_FFFD, 0xFFFF_FFFE, 0xFFFF_FFFF];
+            (numbers.pick(&sizes), numbers.pick(&[0, address]))
+        }
+        5 => (size, to_top),
+        6 => (size, to_top + 1),
+        _ => (size, 0xFFFF_FFFF),
+    };
+    set_header_word(bytes, at, size, order);
+    set_header_word(bytes, at + 4, address, order);
+}
+
+/// Bytes to stand after a table's zero word: zeros, any bytes, or another table with
+/// its entry or without it.
+fn bytes_after(numbers: &mut Numbers, regions: &Regions, order: ByteOrder) -> Vec<u8> {
+    let more = numbers.from_to(1, 9) as usize;
+    match numbers.below(5) {
+        0 => vec![0; more],
+        1 | 2 => numbers.bytes(more),
+        _ => {
+            let list = sections(numbers, regions);
+            let first_word = entry(numbers, regions);
+            let table = table_of(first_word, &list, order);
+            table[numbers.pick(&[0, 4])..].to_vec()
+        }
+    }
+}
+
+/// Bytes that are no table, or words of few values, which begin with whole sections
+/// at times.
+fn no_table(numbers: &mut Numbers, order: ByteOrder) -> Vec<u8> {
+    let length = numbers.index(60);
+    let mut bytes = numbers.bytes(length);
+    if numbers.once_in(2) {
+        for at in (0..length.saturating_sub(3)).step_by(4) {
+            let value = numbers.pick(&[0, 1, 2, 3, 4, 5, 8, 0xFFFF_FFFD, 0xFFFF_FFFF]);
+            set_header_word(&mut bytes, at, value, order);
+        }
+    }
+    bytes
+}
+
+/// A case for the rescue: of sixteen tables two are as they were made, five are cut,
+/// two have bytes after the zero word, four have a fault in a section or what is next
+/// to one, one is damaged as for the other calls, one is no table, and one is written
+/// in the other order. One short list in forty stands twenty times in its table.
+pub fn rescue_case(numbers: &mut Numbers) -> RescueCase {
+    let regions = sound_map(numbers);
+    let order = numbers.order();
+    let mut list = sections(numbers, &regions);
+    if list.len() < 20 && numbers.once_in(40) {
+        list = vec![list; 20].concat();
+    }
+    let first_word = entry(numbers, &regions);
+    let mut table = table_of(first_word, &list, order);
+    match numbers.below(16) {
+        0 | 1 => {}
+        2..=6 => table.truncate(cut_at(numbers, table.len(), &list)),
+        7 | 8 => table.extend(bytes_after(numbers, &regions, order)),
+        9..=12 => fault_in_section(numbers, &mut table, &list, order),
+        13 => damage_table(numbers, &mut table, &list, order),
+        14 => table = no_table(numbers, order),
+        _ => table = table_of(first_word, &list, order.other()),
+    }
+    // The result's length; 0 where there is none.
+    let mut room = vec![0; table.len() + 4];
+    let result = reference::rescue(&table, order, &mut room).length;
+    let size = match numbers.below(12) {
+        0 => result.saturating_sub(1),
+        1 => numbers.pick(&[0, 4, result / 2, result.saturating_sub(4)]),
+        2 => table.len() as u64,
+        3..=6 => result + numbers.from_to(1, 40),
+        _ => result,
+    };
+    RescueCase {
+        table,
+        order,
+        output: numbers.bytes(size as usize),
+    }
+}
+
 // Lists of sections.
 
 /// A case for the writer.

@@ -7,12 +7,13 @@
 //! its list twice, to judge it and to write, and writes up to four data bytes
 //! with their pads as one word. What stands at an address is found in one walk
 //! over each table, which judges the form as it goes; a second peer lets the two
-//! walks take turns.
+//! walks take turns. A cut table is rescued by one walk and one copy of all that
+//! stands before the fault.
 
 use crate::reference::{
     ByteOrder, ConfigAnswer, FindAnswer, JoinAnswer, LabelAnswer, ListSection, LoadAnswer,
-    MapAnswer, Refusal, SameAnswer, StrapAnswer, WriteAnswer, CONFIG_LIMIT, MAP_LIMIT,
-    REGISTER_LIMIT, STRAP_LIMIT, TABLE_LIMIT, TOP,
+    MapAnswer, Refusal, RescueAnswer, SameAnswer, StrapAnswer, WriteAnswer, CONFIG_LIMIT,
+    MAP_LIMIT, REGISTER_LIMIT, STRAP_LIMIT, TABLE_LIMIT, TOP,
 };
 use std::borrow::Cow;
 use std::cell::OnceCell;
@@ -880,6 +881,59 @@ fn find_in<const LOW_FIRST: bool, const IN_TURNS: bool>(
         }
     }
     answer
+}
+
+// The rescue of a cut table.
+
+pub fn rescue(table: &[u8], order: ByteOrder, output: &mut [u8]) -> RescueAnswer {
+    match order {
+        ByteOrder::HighFirst => rescue_in::<false>(table, output),
+        ByteOrder::LowFirst => rescue_in::<true>(table, output),
+    }
+}
+
+/// Not inlined, so that the loops of both orders are compiled alike.
+#[inline(never)]
+fn rescue_in<const LOW_FIRST: bool>(table: &[u8], output: &mut [u8]) -> RescueAnswer {
+    let refused = |number| RescueAnswer {
+        number,
+        ..Default::default()
+    };
+    if table.len() > TABLE_LIMIT {
+        return refused(4);
+    }
+    if table.len() < 4 {
+        return refused(5);
+    }
+    let mut sections = 0;
+    // Where the whole sections so far end. The next one has two words at least.
+    let mut end = 4;
+    while table.len() - end >= 8 {
+        let size = header_word::<LOW_FIRST>(table, end);
+        let address = header_word::<LOW_FIRST>(table, end + 4);
+        let next = next_section(end, size);
+        let past_top = u64::from(address) + u64::from(size) > TOP;
+        if size == 0 || next > table.len() || past_top {
+            break;
+        }
+        sections += 1;
+        end = next;
+    }
+    let added = !table[end..].starts_with(&[0; 4]);
+    let length = end + 4;
+    if length > TABLE_LIMIT || length > output.len() {
+        return refused(if length > TABLE_LIMIT { 10 } else { 11 });
+    }
+    let (kept, rest) = output.split_at_mut(end);
+    kept.copy_from_slice(&table[..end]);
+    rest[..4].copy_from_slice(&[0; 4]);
+    RescueAnswer {
+        length: length as u64,
+        sections,
+        unused: (table.len() - if added { end } else { length }) as u64,
+        added: added.into(),
+        ..Default::default()
+    }
 }
 
 // The configuration table.

@@ -1,14 +1,14 @@
-//! Document 01, as requests 2, 7, 8 and 10 of document 02 mend it, and requests 1
-//! and 4 read once more in plain Rust: the map, the boot table, judging, loading,
-//! the join, the writer, what stands at an address, the configuration table, the
-//! strap value and the listers' text. Addresses are looked at one by one and bytes
-//! are copied one by one; nothing here is quick.
+//! Document 01, as requests 2, 7, 8 and 10 of document 02 mend it, and requests 1,
+//! 4 and 12 read once more in plain Rust: the map, the boot table, judging, loading,
+//! the join, the writer, what stands at an address, the rescue of a cut table, the
+//! configuration table, the strap value and the listers' text. Addresses are looked
+//! at one by one and bytes are copied one by one; nothing here is quick.
 
 use std::collections::HashSet;
 
 /// Most bytes in a map: 64 records of 12.
 pub const MAP_LIMIT: usize = 768;
-/// Most bytes in a boot table, also in one that is joined or written.
+/// Most bytes in a boot table, also in one that is joined, written or rescued.
 pub const TABLE_LIMIT: usize = 16_777_216;
 /// Most registers in a list.
 pub const REGISTER_LIMIT: usize = 1024;
@@ -104,6 +104,18 @@ pub struct FindAnswer {
     pub offset: u64,
     pub length: u64,
     pub read: u64,
+}
+
+/// What a rescue answers: the bytes written, the sections kept, the input bytes not
+/// used, and 1 where the zero word had to be added.
+#[derive(Clone, Copy, Debug, Default, PartialEq, Eq)]
+pub struct RescueAnswer {
+    pub number: u64,
+    pub place: u64,
+    pub length: u64,
+    pub sections: u64,
+    pub unused: u64,
+    pub added: u64,
 }
 
 /// What the configuration table is answered with.
@@ -709,6 +721,78 @@ pub fn part<'a>(older: &'a [u8], newer: &'a [u8], order: ByteOrder, address: u32
         }
     }
     &older[..0]
+}
+
+// The rescue of a cut table.
+
+/// The bytes of the section that a part of a table begins with, pads included, if it
+/// begins with a whole one: the size is not zero, nothing is cut short, and address
+/// plus size is at most 2^32.
+fn whole_section(part: &[u8], order: ByteOrder) -> Option<Vec<u8>> {
+    // The two words are cut, or one of them is missing.
+    if part.len() < 8 {
+        return None;
+    }
+    let size = header_word(part, 0, order);
+    let address = header_word(part, 4, order);
+    let whole = 8 + size + pad_count(size);
+    if size == 0 || whole > part.len() as u64 || address + size > TOP {
+        return None;
+    }
+    Some(part[..whole as usize].to_vec())
+}
+
+/// The rescue: 4, 5 for the entry word alone, 10, 11. The result is the entry, the
+/// whole sections that stand behind it up to the first fault, as they stand, and a
+/// zero word.
+pub fn rescue(table: &[u8], order: ByteOrder, output: &mut [u8]) -> RescueAnswer {
+    let refused = |number: u64| RescueAnswer {
+        number,
+        ..Default::default()
+    };
+    // 4: over the limit.
+    if table.len() > TABLE_LIMIT {
+        return refused(4);
+    }
+    // 5: the entry word is missing or cut.
+    if table.len() < 4 {
+        return refused(5);
+    }
+    let (entry, mut rest) = table.split_at(4);
+    let mut kept = Vec::new();
+    while let Some(section) = whole_section(rest, order) {
+        rest = &rest[section.len()..];
+        kept.push(section);
+    }
+    let mut result = entry.to_vec();
+    let mut used = entry.len();
+    for section in &kept {
+        result.extend(section);
+        used += section.len();
+    }
+    // The table's own zero word is used where it has one there.
+    let added = !rest.starts_with(&[0; 4]);
+    result.extend([0; 4]);
+    if !added {
+        used += 4;
+    }
+    // 10: over the limit. 11: output shorter than the result.
+    for (number, most) in [(10, TABLE_LIMIT), (11, output.len())] {
+        if result.len() > most {
+            return refused(number);
+        }
+    }
+    // Output bytes past the result are not touched.
+    for (i, byte) in result.iter().enumerate() {
+        output[i] = *byte;
+    }
+    RescueAnswer {
+        length: result.len() as u64,
+        sections: kept.len() as u64,
+        unused: (table.len() - used) as u64,
+        added: u64::from(added),
+        ..Default::default()
+    }
 }
 
 // The configuration table.

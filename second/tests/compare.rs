@@ -1,20 +1,24 @@
 //! The library and the reference on generated cases: every field of every
 //! answer and every byte of every buffer. Each refusal of each call must be hit
-//! at least a hundred times: those of judging, loading, the join, the writer and
-//! what stands at an address in each byte order, and the refusals of one of two
-//! tables for the first and for the second. A table written in the other order
-//! must be refused as often, and the same is asked of each outcome of a load under
-//! a map with kind 3, of each kind of list that the writer is given, and of each
-//! kind of address that is asked for and of the tables it is asked of. 6 is
-//! withdrawn and must never be answered.
+//! at least a hundred times: those of judging, loading, the join, the writer, what
+//! stands at an address and the rescue in each byte order, and the refusals of one
+//! of two tables for the first and for the second. A table written in the other
+//! order must be refused as often, and the same is asked of each outcome of a load
+//! under a map with kind 3, of each kind of list that the writer is given, of each
+//! kind of address that is asked for and of the tables it is asked of, and of each
+//! kind of table that is rescued and of output that is lent for it. 6 is withdrawn
+//! and must never be answered.
 
-use second::cases::{self, ConfigCase, FindCase, JoinCase, LoadCase, Numbers, WriteCase};
+use second::cases::{
+    self, ConfigCase, FindCase, JoinCase, LoadCase, Numbers, RescueCase, WriteCase,
+};
 use second::reference::{
-    ByteOrder, FindAnswer, JoinAnswer, Kind, ListSection, WriteAnswer, CONFIG_LIMIT, TABLE_LIMIT,
-    TOP,
+    ByteOrder, FindAnswer, JoinAnswer, Kind, ListSection, RescueAnswer, WriteAnswer, CONFIG_LIMIT,
+    TABLE_LIMIT, TOP,
 };
 use second::{calls, reference};
 use std::collections::HashMap;
+use std::fmt::Debug;
 
 /// Each refusal must be hit at least so often.
 const FLOOR: u64 = 100;
@@ -29,6 +33,8 @@ const OF_JOINS: &[usize] = &[10, 11];
 const OF_JOINED: &[usize] = &[4, 5, 7, 8];
 /// The refusals of the writer.
 const OF_WRITES: &[usize] = &[8, 10, 11, 20, 21];
+/// The refusals of the rescue.
+const OF_RESCUES: &[usize] = &[4, 5, 10, 11];
 /// The refusals of the calls that read no boot table.
 const OF_OTHERS: &[usize] = &[12, 13, 14, 15, 16, 17, 18, 19];
 /// A run with fewer cases is a quick look, of which so many are not asked for.
@@ -454,6 +460,192 @@ impl FindHits {
     }
 }
 
+/// Tables that were to be rescued, and the outputs for them.
+#[derive(Debug, Default)]
+struct RescueHits {
+    /// Refused with 5, with none, one, two and three bytes.
+    entry: [u64; 4],
+    /// Refused with 11: the output is one byte short, has no byte, and is as long as
+    /// the table.
+    short: u64,
+    no_output: u64,
+    as_table: u64,
+    /// Accepted, with an output of the result's length, a longer one, and one shorter
+    /// than the table. All counts that follow are of tables that were accepted.
+    exact: u64,
+    longer: u64,
+    below_table: u64,
+    /// Well-formed, without sections and with some.
+    whole: [u64; 2],
+    /// Up to three bytes stand after the zero word, four or more, and such as begin
+    /// with a whole section.
+    after: [u64; 3],
+    /// Cut right behind the entry, right behind a section, in a size word or the zero
+    /// word, right behind a size word, in an address word, right behind one, in data,
+    /// and in pads.
+    cut: [u64; 8],
+    /// Cut with one, two and three zero bytes behind the sections.
+    zeros: [u64; 3],
+    /// Cut by one byte.
+    by_one: u64,
+    /// Cut, where the size rounded up to a multiple of four is 2^32, and where it is
+    /// less but comes to as much with the two words.
+    wraps: [u64; 2],
+    /// Stopped at a section past the top by one byte, by more, and at one that is cut
+    /// and past the top.
+    past_top: [u64; 3],
+    /// A section is kept that ends at the top.
+    at_top: u64,
+    /// A section is kept that has one, two and three pads which are not all zero.
+    pads: [u64; 3],
+    /// Stopped at a section, with none before it, and with one or more.
+    stopped: [u64; 2],
+    /// Stopped at a section past the top, with a whole one behind it.
+    behind: u64,
+    /// More than twenty sections are kept.
+    many: u64,
+    /// Written in the other order, with no section kept.
+    turned: u64,
+}
+
+impl RescueHits {
+    fn add(&mut self, case: &RescueCase, answer: &RescueAnswer) {
+        let RescueCase {
+            table,
+            order,
+            output,
+        } = case;
+        let (order, room, length) = (*order, output.len() as u64, table.len() as u64);
+        match answer.number {
+            5 => self.entry[table.len()] += 1,
+            11 => {
+                // The same with room says how long the result is.
+                let result = reference::rescue(table, order, &mut vec![0; table.len() + 4]);
+                self.short += u64::from(room + 1 == result.length);
+                self.no_output += u64::from(room == 0);
+                self.as_table += u64::from(room == length);
+            }
+            _ => {}
+        }
+        if answer.number != 0 {
+            return;
+        }
+        self.exact += u64::from(room == answer.length);
+        self.longer += u64::from(room > answer.length);
+        self.below_table += u64::from(room < length);
+        self.turned += u64::from(answer.sections == 0 && turned(table, order));
+
+        // Whether bytes at an offset begin with a whole section: with a zero word
+        // behind it that is a table.
+        let section_at = |at: usize| {
+            let part = &table[at..];
+            (12..=part.len()).step_by(4).any(|end| {
+                let one = [&[0; 4], &part[..end], &[0; 4]].concat();
+                reference::read_table(&one, order).is_ok()
+            })
+        };
+        let fault = reference::read_table(table, order);
+        // The sections before the fault, and where they end.
+        let at = match &fault {
+            Ok(_) => table.len() - 4,
+            Err(refusal) if refusal.number == 7 => refusal.place as usize - 4,
+            Err(refusal) => refusal.place as usize,
+        };
+        let front = [&table[..at], &[0; 4]].concat();
+        let kept = reference::read_table(&front, order).expect("whole sections");
+        let kept = kept.sections;
+        let any = |test: &dyn Fn(&reference::Section) -> bool| u64::from(kept.iter().any(test));
+        let end = |section: &reference::Section| section.address + section.data.len() as u64;
+        self.at_top += any(&|section| end(section) == TOP);
+        self.many += u64::from(kept.len() > 20);
+        for (count, times) in (1..).zip(&mut self.pads) {
+            *times += any(&|section| {
+                section.pads.len() == count && section.pads.iter().any(|pad| *pad != 0)
+            });
+        }
+        let left = &table[at..];
+        let Err(refusal) = fault else {
+            self.whole[usize::from(!kept.is_empty())] += 1;
+            return;
+        };
+        if refusal.number == 7 {
+            let after = left.len() - 4;
+            self.after[usize::from(after > 3)] += 1;
+            self.after[2] += u64::from(section_at(at + 4));
+            return;
+        }
+        if left.len() < 4 {
+            *match (left.len(), kept.is_empty()) {
+                (0, true) => &mut self.cut[0],
+                (0, false) => &mut self.cut[1],
+                _ => &mut self.cut[2],
+            } += 1;
+            if !left.is_empty() && left.iter().all(|byte| *byte == 0) {
+                self.zeros[left.len() - 1] += 1;
+            }
+            return;
+        }
+        self.stopped[usize::from(!kept.is_empty())] += 1;
+        let word = |at: usize| {
+            let bytes = left.get(at..at + 4)?.try_into().expect("four bytes");
+            Some(match order {
+                ByteOrder::HighFirst => u64::from(u32::from_be_bytes(bytes)),
+                ByteOrder::LowFirst => u64::from(u32::from_le_bytes(bytes)),
+            })
+        };
+        let size = word(0).expect("a size word");
+        let padded = size.next_multiple_of(4);
+        let over = word(4).map_or(0, |address| (address + size).saturating_sub(TOP));
+        if refusal.number == 8 {
+            self.past_top[usize::from(over > 1)] += 1;
+            self.behind += u64::from(section_at(at + 8 + padded as usize));
+            return;
+        }
+        self.past_top[2] += u64::from(over > 0);
+        let left = left.len() as u64;
+        self.by_one += u64::from(left + 1 == 8 + padded);
+        if 8 + padded >= TOP {
+            self.wraps[usize::from(padded < TOP)] += 1;
+        }
+        self.cut[match left {
+            4 => 3,
+            5..=7 => 4,
+            8 => 5,
+            _ if left < 8 + size => 6,
+            _ => 7,
+        }] += 1;
+    }
+
+    fn close(&self, name: &str, full: bool) {
+        println!("{name}, rescues: {self:?}");
+        for (kind, counts) in [
+            ("entry", &self.entry[..]),
+            ("short", &[self.short]),
+            ("no_output", &[self.no_output]),
+            ("as_table", &[self.as_table]),
+            ("exact", &[self.exact]),
+            ("longer", &[self.longer]),
+            ("below_table", &[self.below_table]),
+            ("whole", &self.whole),
+            ("after", &self.after),
+            ("cut", &self.cut),
+            ("zeros", &self.zeros),
+            ("by_one", &[self.by_one]),
+            ("wraps", &self.wraps),
+            ("past_top", &self.past_top),
+            ("at_top", &[self.at_top]),
+            ("pads", &self.pads),
+            ("stopped", &self.stopped),
+            ("behind", &[self.behind]),
+            ("many", &[self.many]),
+            ("turned", &[self.turned]),
+        ] {
+            let enough = counts.iter().all(|times| *times >= FLOOR);
+            assert!(enough || !full, "{name}: too few, {kind} {counts:?}");
+        }
+    }
+}
+
 /// The counts of the calls over boot tables of one order.
 #[derive(Default)]
 struct TableHits {
@@ -467,6 +659,8 @@ struct TableHits {
     /// By the table that the answer names: none, the older, the newer.
     find: [Hits; 3],
     finds: FindHits,
+    rescue: Hits,
+    rescues: RescueHits,
     /// Loads refused with 5 of tables that were written in the other order.
     turned: u64,
 }
@@ -502,6 +696,9 @@ impl TableHits {
             assert!(hits.0[0] >= FLOOR || !full, "{name}: too few accepted");
         }
         self.finds.close(name, full);
+        let named = format!("{name}, rescue");
+        self.rescue.close(&named, OF_RESCUES, full);
+        self.rescues.close(name, full);
         println!("{name}, written in the other order: {}", self.turned);
         assert!(
             self.turned >= FLOOR || !full,
@@ -524,6 +721,22 @@ fn guarded<T: Copy>(buffer: &[T], guard: T) -> Vec<T> {
     whole.extend(buffer);
     whole.extend([guard; GUARD]);
     whole
+}
+
+/// A guarded output has the bytes that it had, but for a result of so many at its
+/// front; after a refusal the length is 0.
+fn assert_outside(lent: &[u8], before: &[u8], length: u64, case: &impl Debug) {
+    let result = GUARD..GUARD + length as usize;
+    assert_eq!(
+        lent[..result.start],
+        before[..result.start],
+        "before the output of {case:?}"
+    );
+    assert_eq!(
+        lent[result.end..],
+        before[result.end..],
+        "past the result of {case:?}"
+    );
 }
 
 fn compare_load(case: &LoadCase, hits: &mut [TableHits; 2]) {
@@ -585,9 +798,7 @@ fn compare_join(case: &JoinCase, hits: &mut [TableHits; 2]) {
     let expected = reference::join(first, second, order, &mut other[range]);
     assert_eq!(answer, expected, "joining {case:?}");
     assert_eq!(lent, other, "output after joining {case:?}");
-    if answer.number != 0 {
-        assert_eq!(lent, before, "output after the refusal of {case:?}");
-    }
+    assert_outside(&lent, &before, answer.length, case);
     assert_eq!(&lent_first, first, "the first table is only read");
     assert_eq!(&lent_second, second, "the second table is only read");
     hits[order as usize].add_join(&answer);
@@ -618,18 +829,7 @@ fn compare_write(case: &WriteCase, hits: &mut [TableHits; 2]) {
     let expected = reference::write(entry, list, data, order, &mut other[range]);
     assert_eq!(answer, expected, "writing {case:?}");
     assert_eq!(lent, other, "output after writing {case:?}");
-    // After a refusal the length is 0.
-    let result = GUARD..GUARD + answer.length as usize;
-    assert_eq!(
-        lent[..result.start],
-        before[..result.start],
-        "before the output of {case:?}"
-    );
-    assert_eq!(
-        lent[result.end..],
-        before[result.end..],
-        "past the result of {case:?}"
-    );
+    assert_outside(&lent, &before, answer.length, case);
     assert_eq!(&lent_list, list, "the list is only read");
     assert_eq!(&lent_data, data, "the data is only read");
     let hits = &mut hits[order as usize];
@@ -663,6 +863,29 @@ fn compare_find(case: &FindCase, hits: &mut [TableHits; 2]) {
     let hits = &mut hits[order as usize];
     hits.add_find(&answer);
     hits.finds.add(case, &answer);
+}
+
+fn compare_rescue(case: &RescueCase, hits: &mut [TableHits; 2]) {
+    let RescueCase {
+        table,
+        order,
+        output,
+    } = case;
+    let order = *order;
+    let lent_table = table.clone();
+    let before = guarded(output, 0x9C);
+    let mut lent = before.clone();
+    let mut other = before.clone();
+    let range = GUARD..GUARD + output.len();
+    let answer = calls::rescue(&lent_table, order, &mut lent[range.clone()]);
+    let expected = reference::rescue(table, order, &mut other[range]);
+    assert_eq!(answer, expected, "rescuing {case:?}");
+    assert_eq!(lent, other, "output after rescuing {case:?}");
+    assert_outside(&lent, &before, answer.length, case);
+    assert_eq!(&lent_table, table, "the table is only read");
+    let hits = &mut hits[order as usize];
+    hits.rescue.add(answer.number);
+    hits.rescues.add(case, &answer);
 }
 
 fn compare_config(case: &ConfigCase, hits: &mut Hits) {
@@ -710,9 +933,84 @@ fn compare_strap(value: u32, other: u32, strict: bool, hits: &mut Hits) {
     hits.add(answer.number);
 }
 
+/// Rescues a large table with both, and answers what they answer. The output is not
+/// printed.
+fn rescued(table: &[u8], order: ByteOrder, output: &mut [u8]) -> RescueAnswer {
+    let mut other = output.to_vec();
+    let answer = calls::rescue(table, order, output);
+    assert_eq!(answer, reference::rescue(table, order, &mut other));
+    assert!(output == other, "output after rescuing a large table");
+    answer
+}
+
+/// Rescues at the limit, of a table of one section with its zero word in the last four
+/// bytes, of what is left when these are cut, and of tables whose sections take these
+/// too. The large buffer is left as it came.
+fn compare_large_rescues(
+    numbers: &mut Numbers,
+    large: &mut [u8],
+    order: ByteOrder,
+    hits: &mut TableHits,
+) {
+    let whole = large.to_vec();
+    let mut accept = |table: &[u8], room: usize, unused: u64, added: u64| {
+        let mut output = vec![0x9C; room];
+        let answer = rescued(table, order, &mut output);
+        let expected = RescueAnswer {
+            length: TABLE_LIMIT as u64,
+            sections: 1,
+            unused,
+            added,
+            ..Default::default()
+        };
+        assert_eq!(answer, expected);
+        assert!(output[..TABLE_LIMIT] == whole, "the table without a fault");
+        hits.rescue.add(answer.number);
+    };
+    // The zero word stands there, is missing or cut, or a size stands in its place. Each
+    // result just fits the limit.
+    accept(large, TABLE_LIMIT, 0, 0);
+    for left in 0..4 {
+        let cut = &large[..TABLE_LIMIT - 4 + left];
+        accept(cut, TABLE_LIMIT + left, left as u64, 1);
+    }
+    large[TABLE_LIMIT - 1] = 1;
+    accept(large, TABLE_LIMIT + 4, 4, 1);
+    large[TABLE_LIMIT - 1] = 0;
+    // 11 by one byte.
+    let short = rescued(large, order, &mut vec![0x9C; TABLE_LIMIT - 1]);
+    assert_eq!(short.number, 11);
+    hits.rescue.add(short.number);
+
+    // 10: sections fill the table to its last byte, with pads or without, and the
+    // output is short or has room.
+    let word = |value: usize| cases::header_word(value as u32, order);
+    for turn in 0..120 {
+        let size = 4 * numbers.from_to(1, TABLE_LIMIT as u64 / 4 - 8) as usize;
+        let next = 12 + size;
+        let last = TABLE_LIMIT - next - 8 - numbers.index(4);
+        let covered = large[next..next + 8].to_vec();
+        large[4..8].copy_from_slice(&word(size));
+        large[next..next + 8].copy_from_slice(&[word(last), word(0x2000_0000)].concat());
+        let room = match turn {
+            0 => TABLE_LIMIT + 4,
+            _ => numbers.index(41),
+        };
+        let before = vec![0x9C; room];
+        let mut output = before.clone();
+        let answer = rescued(large, order, &mut output);
+        assert_eq!(answer.number, 10);
+        assert!(output == before, "output after 10");
+        hits.rescue.add(answer.number);
+        large[next..next + 8].copy_from_slice(&covered);
+    }
+    large.copy_from_slice(&whole);
+}
+
 /// Tables at and over the boot table's limit, which no case of `load_case`,
-/// `join_case` and `find_case` reaches. One large buffer serves all of them, and
-/// the buffers that are lent stay short.
+/// `join_case`, `find_case` and `rescue_case` reaches. One large buffer serves all of
+/// them, and the buffers that are lent stay short, but for a few that take a rescued
+/// table.
 fn compare_large(numbers: &mut Numbers, order: ByteOrder, hits: &mut TableHits) {
     let map = cases::map(&[(1, 0x0080_0000, 16)]);
     let data = vec![0x5A; TABLE_LIMIT - 16];
@@ -771,10 +1069,17 @@ fn compare_large(numbers: &mut Numbers, order: ByteOrder, hits: &mut TableHits) 
         }
     }
 
+    compare_large_rescues(numbers, &mut large, order, hits);
+
     // 4: over the limit by 1 to 64 bytes, whatever the bytes are.
     large.extend([0; 64]);
     for _ in 0..120 {
         let over = &large[..TABLE_LIMIT + numbers.from_to(1, 64) as usize];
+        let mut lent = before.clone();
+        let answer = rescued(over, order, &mut lent);
+        assert_eq!(lent, before);
+        assert_eq!(answer.number, 4);
+        hits.rescue.add(answer.number);
         let judged = calls::judge(&map, over, order);
         assert_eq!(judged, reference::judge(&map, over, order));
         hits.judge.add(judged.number);
@@ -832,17 +1137,18 @@ fn generated_cases() {
     let mut tables = <[TableHits; 2]>::default();
     let mut others = Hits::default();
 
-    // Of the cases a third are loads, a sixth joins, a sixth lists to write and a
-    // sixth addresses; the rest is shared.
-    let sixth = count / 6;
-    let [loads, joins, writes, finds, configs] = [count / 3, sixth, sixth, sixth, count / 10];
+    // Of the cases a third are loads, and joins, lists to write, addresses and tables
+    // to rescue are an eighth each; the rest is shared.
+    let eighth = count / 8;
+    let [loads, configs] = [count / 3, count / 10];
     let shares = [
         loads,
-        joins,
-        writes,
-        finds,
+        eighth,
+        eighth,
+        eighth,
+        eighth,
         configs,
-        count - loads - joins - writes - finds - configs,
+        count - loads - 4 * eighth - configs,
     ];
     let mut numbers = Numbers::new(seed, 1);
     for _ in 0..shares[0] {
@@ -860,13 +1166,17 @@ fn generated_cases() {
     for _ in 0..shares[3] {
         compare_find(&cases::find_case(&mut numbers), &mut tables);
     }
-    let mut numbers = Numbers::new(seed, 3);
+    let mut numbers = Numbers::new(seed, 8);
     for _ in 0..shares[4] {
+        compare_rescue(&cases::rescue_case(&mut numbers), &mut tables);
+    }
+    let mut numbers = Numbers::new(seed, 3);
+    for _ in 0..shares[5] {
         compare_config(&cases::config_case(&mut numbers), &mut others);
     }
     let configures = others.0[0];
     let mut numbers = Numbers::new(seed, 4);
-    for _ in 0..shares[5] {
+    for _ in 0..shares[6] {
         let value = cases::strap_value(&mut numbers);
         // At times the other value differs in one bit only.
         let other = match numbers.below(2) {
@@ -889,9 +1199,10 @@ fn generated_cases() {
     let finds = tables
         .each_ref()
         .map(|hits| hits.find.iter().map(|hits| hits.0[0]).sum());
+    let rescues = tables.each_ref().map(|hits| hits.rescue.0[0]);
     println!("seed {seed}, {count} cases; accepted, boot tables in each order:");
     println!("load {loads:?}, join {joins:?}, write {writes:?}, find {finds:?}");
-    println!("configure {configures}, strap {straps}");
+    println!("rescue {rescues:?}, configure {configures}, strap {straps}");
     println!("how often each number was answered, from 0 on:");
     for order in ByteOrder::BOTH {
         tables[order as usize].close(&format!("{order:?}"), full);
@@ -908,8 +1219,10 @@ fn generated_cases() {
             (writes[1], shares[2] / 2),
             (finds[0], shares[3] / 2),
             (finds[1], shares[3] / 2),
-            (configures, shares[4]),
-            (straps, shares[5]),
+            (rescues[0], shares[4] / 2),
+            (rescues[1], shares[4] / 2),
+            (configures, shares[5]),
+            (straps, shares[6]),
         ] {
             assert!(times >= share / 10, "{times} of {share} were accepted");
         }

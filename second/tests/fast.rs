@@ -1,7 +1,7 @@
 //! The benchmark's peer and the reference on generated cases: every field of
 //! every answer and every byte of every buffer, so that the peer is right.
 
-use second::cases::{self, FindCase, LoadCase, Numbers, WriteCase};
+use second::cases::{self, FindCase, LoadCase, Numbers, RescueCase, WriteCase};
 use second::reference::{ByteOrder, ListSection, STRAP_LIMIT, TABLE_LIMIT, TOP};
 use second::{calls, fast, reference};
 
@@ -385,6 +385,37 @@ fn finding_among_different_counts() {
     }
 }
 
+/// Compares the rescue, and counts its number in the case's order.
+fn compare_rescue(case: &RescueCase, hits: &mut [Hits; 2]) {
+    let RescueCase {
+        table,
+        order,
+        output,
+    } = case;
+    let mut written = output.clone();
+    let mut expected = output.clone();
+    let answer = fast::rescue(table, *order, &mut written);
+    assert_eq!(
+        answer,
+        reference::rescue(table, *order, &mut expected),
+        "rescuing {case:?}"
+    );
+    assert_eq!(written, expected, "output after rescuing {case:?}");
+    hits[*order as usize][answer.number as usize] += 1;
+}
+
+#[test]
+fn rescuing() {
+    let mut numbers = Numbers::new(cases::seed(), 86);
+    let mut hits = [[0; 30]; 2];
+    for _ in 0..CASES {
+        compare_rescue(&cases::rescue_case(&mut numbers), &mut hits);
+    }
+    for hits in &hits {
+        all_hit(hits, &[0, 5, 11]);
+    }
+}
+
 #[test]
 fn configuring() {
     let mut numbers = Numbers::new(cases::seed(), 73);
@@ -537,6 +568,40 @@ fn writing_at_the_limit() {
             assert!(output == expected, "{count} sections of {size} bytes");
             assert_eq!(answer.number, number, "{count} sections of {size} bytes");
         }
+    }
+}
+
+/// Tables to rescue at the limit and over it: of one section that reaches to the last
+/// bytes or is cut there, and of as many sections as the limit takes.
+#[test]
+fn rescuing_at_the_limit() {
+    for order in ByteOrder::BOTH {
+        let rescues = |table: &[u8], number: u64| {
+            let mut output = vec![3; TABLE_LIMIT + 4];
+            let mut expected = output.clone();
+            let answer = fast::rescue(table, order, &mut output);
+            assert_eq!(answer, reference::rescue(table, order, &mut expected));
+            assert!(output == expected, "output, {} bytes", table.len());
+            assert_eq!(answer.number, number, "{} bytes", table.len());
+        };
+        for (size, number) in [
+            (TABLE_LIMIT - 16, 0),
+            (TABLE_LIMIT - 15, 10),
+            (TABLE_LIMIT - 12, 10),
+            (TABLE_LIMIT - 11, 0),
+        ] {
+            let table = cases::table(1, &[(0, &vec![7; size])], order);
+            rescues(&table[..TABLE_LIMIT], number);
+            rescues(&table[..TABLE_LIMIT - 1], 0);
+        }
+        let over = cases::table(1, &[(0, &vec![7; TABLE_LIMIT - 15])], order);
+        rescues(&over[..TABLE_LIMIT + 1], 4);
+        rescues(&over, 4);
+        let count = (TABLE_LIMIT - 8) / 12;
+        let sections = vec![(9, &[8][..]); count];
+        let table = cases::table(1, &sections, order);
+        rescues(&table, 0);
+        rescues(&table[..table.len() - 5], 0);
     }
 }
 

@@ -1,6 +1,6 @@
 //! Cases by name: the bench cards, what students write first, and bad inputs
 //! one by one. Expected values are written by hand from document 01 as requests
-//! 2, 7, 8 and 10 of document 02 mend it and from requests 1 and 4, and both the
+//! 2, 7, 8 and 10 of document 02 mend it and from requests 1, 4 and 12, and both the
 //! library and the reference must give them. Cases over boot tables are run in both
 //! byte orders: cards 1 to 3 high first, with `p_and_q_low_first` and
 //! `p_and_q_joined_low_first` as their counterparts low first.
@@ -12,7 +12,7 @@ use second::cases::{
 use second::reference::ByteOrder::{self, HighFirst, LowFirst};
 use second::reference::{
     ConfigAnswer, FindAnswer, JoinAnswer, LabelAnswer, ListSection, LoadAnswer, MapAnswer,
-    SameAnswer, StrapAnswer, WriteAnswer, TABLE_LIMIT,
+    RescueAnswer, SameAnswer, StrapAnswer, WriteAnswer, TABLE_LIMIT,
 };
 use second::{calls, reference};
 
@@ -64,6 +64,7 @@ type Join = fn(&[u8], &[u8], ByteOrder, &mut [u8]) -> JoinAnswer;
 type Write = fn(u32, &[ListSection], &[u8], ByteOrder, &mut [u8]) -> WriteAnswer;
 type Find = fn(&[u8], &[u8], ByteOrder, u32) -> FindAnswer;
 type Part = for<'a> fn(&'a [u8], &'a [u8], ByteOrder, u32) -> &'a [u8];
+type Rescue = fn(&[u8], ByteOrder, &mut [u8]) -> RescueAnswer;
 type Configure = fn(&[u8], &[u32], &mut [u32]) -> ConfigAnswer;
 
 const LOADS: [(&str, Judge, Load); 2] = [
@@ -76,6 +77,7 @@ const FINDS: [(&str, Find); 2] = [("library", calls::find), ("reference", refere
 /// The library's own part is not in the archive: the wrapper cuts one by the answer of
 /// the library's find, and only its choice of table can be wrong where that is right.
 const PARTS: [(&str, Part); 2] = [("wrapper", calls::part), ("reference", reference::part)];
+const RESCUES: [(&str, Rescue); 2] = [("library", calls::rescue), ("reference", reference::rescue)];
 const CONFIGURES: [(&str, Configure); 2] = [
     ("library", calls::configure),
     ("reference", reference::configure),
@@ -352,6 +354,57 @@ fn find_refuses(
     for address in [0x0080_0002, 0x0080_0004, 0x0070_0000, 0, 0xFFFF_FFFF] {
         find_gives((older, newer), order, address, expected, &older[..0]);
     }
+}
+
+#[track_caller]
+fn rescue_gives(
+    table: &[u8],
+    order: ByteOrder,
+    before: &[u8],
+    expected: RescueAnswer,
+    after: &[u8],
+) {
+    for (name, rescue) in RESCUES {
+        let mut output = before.to_vec();
+        let answer = rescue(table, order, &mut output);
+        assert_eq!(answer, expected, "{name}, rescue, {order:?}");
+        assert!(output == after, "{name}, output, {order:?}");
+    }
+}
+
+/// A table is rescued over 0xEE, into an output of the result's length: so many
+/// sections are kept and so many bytes not used, and the zero word is added or not.
+#[track_caller]
+fn rescues(
+    table: &[u8],
+    order: ByteOrder,
+    after: &[u8],
+    (sections, unused, added): (u64, usize, bool),
+) {
+    let before = vec![0xEE; after.len()];
+    let expected = RescueAnswer {
+        number: 0,
+        place: 0,
+        length: after.len() as u64,
+        sections,
+        unused: unused as u64,
+        added: u64::from(added),
+    };
+    rescue_gives(table, order, &before, expected, after);
+}
+
+/// A refusal of the rescue: output stays as it was.
+#[track_caller]
+fn rescue_refuses(table: &[u8], order: ByteOrder, output: &[u8], number: u64) {
+    let expected = RescueAnswer {
+        number,
+        place: 0,
+        length: 0,
+        sections: 0,
+        unused: 0,
+        added: 0,
+    };
+    rescue_gives(table, order, output, expected, output);
 }
 
 fn configured(entries: u64, bits: u64) -> ConfigAnswer {
@@ -2691,6 +2744,456 @@ fn what_stands_in_a_table_that_is_well_formed_in_both_orders() {
         stands(pair, LowFirst, 0x0000_2108, part(second, end), 16);
         stands(pair, LowFirst, 0x0001_1FFF, part(end - 1, end), 16);
         nothing_stands(pair, LowFirst, &[0x0001_2000, 0x0020_0000], 16);
+    }
+}
+
+// The rescue of a cut table.
+
+/// P's entry and a zero word.
+fn p_entry(order: ByteOrder) -> &'static [u8; 8] {
+    match order {
+        HighFirst => &[0, 0x80, 0, 0, 0, 0, 0, 0],
+        LowFirst => &[0, 0, 0x80, 0, 0, 0, 0, 0],
+    }
+}
+
+/// P with Q's section behind its own: the sections end at 16 and 28.
+fn p_then_q(order: ByteOrder) -> [u8; 32] {
+    written(
+        [
+            0, 0x80, 0, 0, 0, 0, 0, 3, 0, 0x80, 0, 2, 0xA1, 0xA2, 0xA3, 0, 0, 0, 0, 1, 0, 0x80, 0,
+            4, 0xB7, 0, 0, 0, 0, 0, 0, 0,
+        ],
+        &[0, 4, 8, 16, 20],
+        order,
+    )
+}
+
+#[test]
+fn whole_tables_are_rescued_as_they_stand() {
+    for order in ByteOrder::BOTH {
+        rescues(p(order), order, p(order), (1, 0, false));
+        rescues(q(order), order, q(order), (1, 0, false));
+        rescues(p_01(order), order, p_01(order), (1, 0, false));
+        rescues(p_entry(order), order, p_entry(order), (0, 0, false));
+        let both = p_then_q(order);
+        rescues(&both, order, &both, (2, 0, false));
+    }
+}
+
+#[test]
+fn p_without_its_last_bytes() {
+    for order in ByteOrder::BOTH {
+        // Of the zero word three bytes are left, two, one and none.
+        for (length, unused) in [(19, 3), (18, 2), (17, 1), (16, 0)] {
+            rescues(&p(order)[..length], order, p(order), (1, unused, true));
+        }
+    }
+}
+
+#[test]
+fn p_cut_in_its_section() {
+    for order in ByteOrder::BOTH {
+        // In its size, address and data, and where its pad should stand.
+        for (length, unused) in [
+            (5, 1),
+            (6, 2),
+            (7, 3),
+            (8, 4),
+            (9, 5),
+            (10, 6),
+            (11, 7),
+            (12, 8),
+            (13, 9),
+            (14, 10),
+            (15, 11),
+        ] {
+            let cut = &p(order)[..length];
+            rescues(cut, order, p_entry(order), (0, unused, true));
+        }
+    }
+}
+
+#[test]
+fn p_with_bytes_after_its_zero_word() {
+    for order in ByteOrder::BOTH {
+        for more in [&[0][..], &[1], &[0xFF; 3], &[0; 4], &[0; 5], &[7; 40]] {
+            let longer = [&p(order)[..], more].concat();
+            rescues(&longer, order, p(order), (1, more.len(), false));
+        }
+        // Q behind it, with its entry and without.
+        let longer = [&p(order)[..], q(order)].concat();
+        rescues(&longer, order, p(order), (1, 20, false));
+        let longer = [&p(order)[..], &q(order)[4..]].concat();
+        rescues(&longer, order, p(order), (1, 16, false));
+        let longer = [&p_entry(order)[..], &q(order)[4..]].concat();
+        rescues(&longer, order, p_entry(order), (0, 16, false));
+    }
+}
+
+#[test]
+fn an_entry_word_alone_and_with_a_cut_zero_word() {
+    for order in ByteOrder::BOTH {
+        for entry in [[0; 4], [0xFF; 4], [0x12, 0x34, 0x56, 0x78]] {
+            let result = [entry, [0; 4]].concat();
+            rescues(&result[..4], order, &result, (0, 0, true));
+            rescues(&result[..5], order, &result, (0, 1, true));
+            rescues(&result[..7], order, &result, (0, 3, true));
+            rescues(&result, order, &result, (0, 0, false));
+        }
+    }
+}
+
+#[test]
+fn an_entry_word_that_is_missing_or_cut() {
+    for order in ByteOrder::BOTH {
+        for length in 0..4 {
+            for bytes in [p(order), &[0; 20], &[0xFF; 20]] {
+                rescue_refuses(&bytes[..length], order, &[0xEE; 40], 5);
+                // 5 comes before 11.
+                rescue_refuses(&bytes[..length], order, &[0xEE; 7], 5);
+                rescue_refuses(&bytes[..length], order, &[], 5);
+            }
+        }
+    }
+}
+
+#[test]
+fn the_second_of_two_sections_is_cut() {
+    for order in ByteOrder::BOTH {
+        let both = p_then_q(order);
+        for length in 16..28 {
+            rescues(&both[..length], order, p(order), (1, length - 16, true));
+        }
+        for length in 28..32 {
+            rescues(&both[..length], order, &both, (2, length - 28, true));
+        }
+        // A size by which the data goes on past the table, by 1 byte and by more.
+        for size in [9, 12, 0x100, 0x7FFF_FFFF] {
+            let mut bytes = both;
+            bytes[16..20].copy_from_slice(&header_word(size, order));
+            rescues(&bytes, order, p(order), (1, 16, true));
+        }
+        // With 4 the pads are data, and with 8 the zero word too.
+        let mut bytes = both;
+        bytes[16..20].copy_from_slice(&header_word(4, order));
+        rescues(&bytes, order, &bytes, (2, 0, false));
+        bytes[16..20].copy_from_slice(&header_word(8, order));
+        let result = [&bytes[..], &[0; 4]].concat();
+        rescues(&bytes, order, &result, (2, 0, true));
+    }
+}
+
+#[test]
+fn a_rescued_size_does_not_come_round_at_zero() {
+    for order in ByteOrder::BOTH {
+        // Rounded up, and with its two words, such a size is 2^32 or more.
+        for size in [
+            0xFFFF_FFF4,
+            0xFFFF_FFF5,
+            0xFFFF_FFF8,
+            0xFFFF_FFFC,
+            0xFFFF_FFFD,
+            0xFFFF_FFFE,
+            0xFFFF_FFFF,
+        ] {
+            // With P's address, at 0, and at the highest address.
+            for address in [0x0080_0002, 0, 0xFFFF_FFFF] {
+                let words = [header_word(size, order), header_word(address, order)].concat();
+                let mut bytes = *p(order);
+                bytes[4..12].copy_from_slice(&words);
+                rescues(&bytes, order, p_entry(order), (0, 16, true));
+                let mut bytes = p_then_q(order);
+                bytes[16..24].copy_from_slice(&words);
+                rescues(&bytes, order, p(order), (1, 16, true));
+                // Nothing stands behind the two words.
+                rescues(&bytes[..24], order, p(order), (1, 8, true));
+            }
+        }
+    }
+}
+
+#[test]
+fn a_rescued_section_up_to_the_top_and_past_it() {
+    for order in ByteOrder::BOTH {
+        for (address, size, kept) in [
+            (0xFFFF_FFFF, 1, true),
+            (0xFFFF_FFFF, 2, false),
+            (0xFFFF_FFFF, 8, false),
+            (0xFFFF_FFFC, 4, true),
+            (0xFFFF_FFFC, 5, false),
+            (0xFFFF_FFFC, 8, false),
+        ] {
+            let data = vec![0x3C; size];
+            let alone = table(0x0080_0000, &[(address, &data)], order);
+            let unused = alone.len() - 4;
+            match kept {
+                true => rescues(&alone, order, &alone, (1, 0, false)),
+                false => rescues(&alone, order, p_entry(order), (0, unused, true)),
+            }
+            // Between P's section and Q's, which is not kept then either.
+            let between = [&p(order)[..16], &alone[4..unused], &q(order)[4..]].concat();
+            let unused = between.len() - 16;
+            match kept {
+                true => rescues(&between, order, &between, (3, 0, false)),
+                false => rescues(&between, order, p(order), (1, unused, true)),
+            }
+        }
+    }
+}
+
+#[test]
+fn nothing_is_rescued_behind_the_first_fault() {
+    for order in ByteOrder::BOTH {
+        let behind = &p_then_q(order)[4..];
+        // The first section is past the top, and two whole ones stand behind it.
+        let bad = [header_word(2, order), [0xFF; 4], [1, 2, 0, 0]].concat();
+        let bytes = [&p_entry(order)[..4], &bad, behind].concat();
+        rescues(&bytes, order, p_entry(order), (0, 40, true));
+        // A size that is too large, and the same behind it.
+        let bad = [header_word(100, order), [0; 4], [1, 2, 0, 0]].concat();
+        let bytes = [&p_entry(order)[..4], &bad, behind].concat();
+        rescues(&bytes, order, p_entry(order), (0, 40, true));
+        // A zero word before them.
+        let bytes = [&p_entry(order)[..], behind].concat();
+        rescues(&bytes, order, p_entry(order), (0, 28, false));
+        // And in place of Q's size.
+        let mut bytes = p_then_q(order);
+        bytes[16..20].fill(0);
+        rescues(&bytes, order, p(order), (1, 12, false));
+    }
+}
+
+#[test]
+fn pads_are_rescued_as_they_stand() {
+    for order in ByteOrder::BOTH {
+        let bytes = written(
+            [
+                0, 0, 0, 1, 0, 0, 0, 1, 0, 0, 0, 0x10, 0xA1, 0xFF, 0xFF, 0xFF, 0, 0, 0, 2, 0, 0, 0,
+                0x20, 0xA2, 0xA3, 0xFF, 0xFF, 0, 0, 0, 3, 0, 0, 0, 0x30, 0xA4, 0xA5, 0xA6, 0xFF, 0,
+                0, 0, 0,
+            ],
+            &[0, 4, 8, 16, 20, 28, 32],
+            order,
+        );
+        rescues(&bytes, order, &bytes, (3, 0, false));
+        rescues(&bytes[..41], order, &bytes, (3, 1, true));
+        rescues(&bytes[..40], order, &bytes, (3, 0, true));
+        // The last section without its pad, and the one before without its last.
+        let two = [&bytes[..28], &[0; 4]].concat();
+        rescues(&bytes[..39], order, &two, (2, 11, true));
+        rescues(&bytes[..28], order, &two, (2, 0, true));
+        let one = [&bytes[..16], &[0; 4]].concat();
+        rescues(&bytes[..27], order, &one, (1, 11, true));
+        rescues(&bytes[..26], order, &one, (1, 10, true));
+        // The first with none of its three pads, one and two.
+        for length in 13..16 {
+            let none = [&bytes[..4], &[0; 4]].concat();
+            rescues(&bytes[..length], order, &none, (0, length - 4, true));
+        }
+    }
+}
+
+#[test]
+fn rescue_outputs_exact_short_empty_and_longer() {
+    for order in ByteOrder::BOTH {
+        let longer = [&p(order)[..], &[7; 100]].concat();
+        // Whole, cut, and with more bytes than the output has.
+        for (bytes, unused, added) in [
+            (&p(order)[..], 0, false),
+            (&p(order)[..19], 3, true),
+            (&p(order)[..16], 0, true),
+            (&longer, 100, false),
+        ] {
+            rescues(bytes, order, p(order), (1, unused, added));
+            for length in 0..20 {
+                rescue_refuses(bytes, order, &vec![0xEE; length], 11);
+            }
+            let answer = RescueAnswer {
+                number: 0,
+                place: 0,
+                length: 20,
+                sections: 1,
+                unused: unused as u64,
+                added: u64::from(added),
+            };
+            for more in [1, 2, 3, 4, 100] {
+                let before = vec![0xEE; 20 + more];
+                let after = [&p(order)[..], &vec![0xEE; more]].concat();
+                rescue_gives(bytes, order, &before, answer, &after);
+            }
+        }
+        // The entry and the zero word alone.
+        for length in 0..8 {
+            rescue_refuses(&p(order)[..15], order, &vec![0xEE; length], 11);
+        }
+    }
+}
+
+#[test]
+fn words_in_data_are_not_rescued_apart() {
+    for order in ByteOrder::BOTH {
+        // The data has a zero word, and then P's section and a zero word.
+        let data = [&[0; 4], &p(order)[4..]].concat();
+        let bytes = table(0x0080_0000, &[(0x0070_0000, &data)], order);
+        assert_eq!(bytes.len(), 36);
+        rescues(&bytes, order, &bytes, (1, 0, false));
+        rescues(&bytes[..32], order, &bytes, (1, 0, true));
+        // Cut by one byte nothing is kept, not even what its data seems to have.
+        rescues(&bytes[..31], order, p_entry(order), (0, 27, true));
+    }
+}
+
+#[test]
+fn tables_rescued_in_the_wrong_order() {
+    for order in ByteOrder::BOTH {
+        let (right, wrong) = (order, order.other());
+        // The size 3 is read as 0x03000000. The entry is kept as it stands.
+        rescues(p(right), wrong, p_entry(right), (0, 16, true));
+        let both = p_then_q(right);
+        rescues(&both, wrong, p_entry(right), (0, 28, true));
+        // Without sections there is nothing to read but the zero word.
+        rescues(p_entry(right), wrong, p_entry(right), (0, 0, false));
+        // One size alone in the other order: P's section is kept, Q's is not.
+        let mut turned = both;
+        turn_word(&mut turned, 16);
+        rescues(&turned, right, p(right), (1, 16, true));
+        // An address of 0xFF alone is read as 0xFF000000, and kept as it stands.
+        let mut turned = both;
+        turned[20..24].copy_from_slice(&header_word(0xFF, wrong));
+        rescues(&turned, right, &turned, (2, 0, false));
+        // At 0xFFFFFF01 there is room for 255 bytes, and not for 256, which there is if
+        // the address is read as 0x01FFFFFF.
+        let fits = table(0x0080_0000, &[(0xFFFF_FF01, &[0x3C; 255])], right);
+        rescues(&fits, right, &fits, (1, 0, false));
+        let mut over = table(0x0080_0000, &[(0xFFFF_FF01, &[0x3C; 256])], right);
+        rescues(&over, right, p_entry(right), (0, 268, true));
+        turn_word(&mut over, 8);
+        rescues(&over, right, &over, (1, 0, false));
+    }
+}
+
+#[test]
+fn rescues_under_header_words_of_different_bytes() {
+    let data: Vec<u8> = (0..0x1_0203).map(|i| (i % 251) as u8).collect();
+    let high = [0x12, 0x34, 0x56, 0x79, 0, 1, 2, 3, 0x12, 0x34, 0x56, 0x78];
+    let low = [0x79, 0x56, 0x34, 0x12, 3, 2, 1, 0, 0x78, 0x56, 0x34, 0x12];
+    for (header, order) in [(high, HighFirst), (low, LowFirst)] {
+        // One pad and the zero word.
+        let bytes = [&header[..], &data, &[0xFF], &[0; 4]].concat();
+        let end = 12 + 0x1_0204;
+        let none = [&header[..4], &[0; 4]].concat();
+        rescues(&bytes, order, &bytes, (1, 0, false));
+        rescues(&bytes[..end + 3], order, &bytes, (1, 3, true));
+        rescues(&bytes[..end], order, &bytes, (1, 0, true));
+        rescues(&bytes[..end - 1], order, &none, (0, end - 5, true));
+        // The size is read as 0x03020100.
+        rescues(&bytes, order.other(), &none, (0, end, true));
+    }
+}
+
+#[test]
+fn a_rescued_table_that_is_well_formed_in_both_orders() {
+    // High first the sizes are 0x100 and 0xFEF8; low first the only size is
+    // 0x10000, and the second section is data of the first.
+    let bytes = [
+        &[0, 0x20, 0, 0, 0, 0, 1, 0, 0, 0x20, 0, 0][..],
+        &[0x11; 0x100],
+        &[0, 0, 0xFE, 0xF8, 0, 0x30, 0, 0],
+        &[0x22; 0xFEF8],
+        &[0; 4],
+    ]
+    .concat();
+    let end = 12 + 0x1_0000;
+    rescues(&bytes, HighFirst, &bytes, (2, 0, false));
+    rescues(&bytes, LowFirst, &bytes, (1, 0, false));
+    rescues(&bytes[..end], HighFirst, &bytes, (2, 0, true));
+    rescues(&bytes[..end], LowFirst, &bytes, (1, 0, true));
+    // Cut by one byte more.
+    let first = [&bytes[..12 + 0x100], &[0; 4]].concat();
+    rescues(&bytes[..end - 1], HighFirst, &first, (1, 0xFEFF, true));
+    let none = [&bytes[..4], &[0; 4]].concat();
+    rescues(&bytes[..end - 1], LowFirst, &none, (0, 0x1_0007, true));
+}
+
+#[test]
+fn rescues_at_the_limit_and_over() {
+    for order in ByteOrder::BOTH {
+        let limit = TABLE_LIMIT;
+        assert_eq!(limit, 16_777_216);
+        // One section, and the zero word in the last four bytes.
+        let data = vec![0xC4; limit - 16];
+        let mut bytes = table(0x0080_0000, &[(0x2000_0000, &data)], order);
+        assert_eq!(bytes.len(), limit);
+        let whole = bytes.clone();
+        rescues(&bytes, order, &whole, (1, 0, false));
+        // The zero word is cut, and the result has as many bytes as the limit allows.
+        rescues(&bytes[..limit - 1], order, &whole, (1, 3, true));
+        rescues(&bytes[..limit - 4], order, &whole, (1, 0, true));
+        let short = vec![0xEE; limit - 1];
+        rescue_refuses(&bytes, order, &short, 11);
+        rescue_refuses(&bytes[..limit - 4], order, &short, 11);
+        // Another word stands there.
+        bytes[limit - 2] = 1;
+        rescues(&bytes, order, &whole, (1, 4, true));
+        // Sections that reach to the last byte, one or two of them: 10, which comes before
+        // 11.
+        for size in [limit - 12, limit - 13, limit - 15] {
+            bytes[4..8].copy_from_slice(&header_word(size as u32, order));
+            rescue_refuses(&bytes, order, &vec![0xEE; limit + 4], 10);
+            rescue_refuses(&bytes, order, &short, 10);
+            rescue_refuses(&bytes, order, &[], 10);
+            // One byte less, and the section is cut.
+            rescues(
+                &bytes[..limit - 1],
+                order,
+                p_entry(order),
+                (0, limit - 5, true),
+            );
+        }
+        bytes[4..8].copy_from_slice(&header_word(limit as u32 - 24, order));
+        let words = [header_word(1, order), header_word(7, order)].concat();
+        bytes[limit - 12..limit - 4].copy_from_slice(&words);
+        rescue_refuses(&bytes, order, &vec![0xEE; limit + 4], 10);
+        // A section that goes on past the limit is cut.
+        bytes[4..8].copy_from_slice(&header_word(limit as u32 - 11, order));
+        rescues(&bytes, order, p_entry(order), (0, limit - 4, true));
+        // Over the limit: 4, whatever the bytes are, and before 11.
+        for first in [&whole[..], &bytes, &vec![0; limit]] {
+            let over = [first, &[0]].concat();
+            rescue_refuses(&over, order, &[0xEE; 40], 4);
+            rescue_refuses(&over, order, &[], 4);
+        }
+    }
+}
+
+#[test]
+fn as_many_rescued_sections_as_the_limit_takes() {
+    let count = (TABLE_LIMIT - 8) / 12;
+    assert_eq!(count, 1_398_100);
+    for order in ByteOrder::BOTH {
+        let mut many = vec![0; 4];
+        for i in 0..count {
+            let address = 0x0080_0000 + (i % 16) as u32;
+            let pads = [0xFF, (i % 7) as u8, 1];
+            many.extend(padded_section(address, &[(i % 251) as u8], &pads, order));
+        }
+        many.extend([0; 4]);
+        let end = many.len() - 4;
+        rescues(&many, order, &many, (1_398_100, 0, false));
+        // Cut in the last section, and right behind it.
+        rescues(&many[..end], order, &many, (1_398_100, 0, true));
+        let less = [&many[..end - 12], &[0; 4]].concat();
+        rescues(&many[..end - 1], order, &less, (1_398_099, 11, true));
+        // The last section past the top, and then one in the middle.
+        let bad = [header_word(2, order), [0xFF; 4]].concat();
+        many[end - 12..end - 4].copy_from_slice(&bad);
+        rescues(&many, order, &less, (1_398_099, 16, true));
+        let middle = 4 + 12 * 700_000;
+        many[middle..middle + 8].copy_from_slice(&bad);
+        let half = [&many[..middle], &[0; 4]].concat();
+        let unused = many.len() - middle;
+        rescues(&many, order, &half, (700_000, unused, true));
     }
 }
 

@@ -19,7 +19,7 @@ use Rattle.boot_table.specs.Table.{Sect, Reading, stepAt, sectionAt, bef
 use Rattle.boot_table.specs.Form.{tableLimit, total, misformed, formed, readForm, formOf, WellFormed}
 use Rattle.boot_table.specs.Walk.{tally}
 use Rattle.boot_table.proofs.StepLaws.{section-of, end-of, length-body, fault-number}
-use Rattle.boot_table.proofs.ReadLaws.{read-section, read-end, read-fault, read-placed, read-room, whole-ind}
+use Rattle.boot_table.proofs.ReadLaws.{read-section, read-end, read-fault, read-placed, read-room, read-begins, whole-ind}
 
 -- ---- the walk
 
@@ -90,7 +90,7 @@ pub well-read : (o : ByteOrder) (t : List ℕ) → WellFormed o t → (reading o
 unfolding reading
 well-read o t w =
     by-cases (decLe 4 (length t))
-    (λ h. (simp (le-ltb _ _ h), simp (le-ltb _ _ h) at (w .whole)))
+    (λ h. let e = read-begins o t h in (e, ap (λ (r : Reading). r .fault) (sym e) ∙ w .whole))
     (λ h. absurd (not-zero (simp (lt-ltb (length t) 4 (omega arith)) at (w .whole))))
 
 -- a well-formed table has its entry and its zero word

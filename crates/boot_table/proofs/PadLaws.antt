@@ -21,7 +21,7 @@ use Rattle.boot_table.specs.Form.{total, readForm, formOf, WellFormed}
 use Rattle.boot_table.specs.Pads.{inPads, padFrom, DifferInPads, bare}
 use Rattle.boot_table.specs.Valid.{Valid, All, none, also}
 use Rattle.boot_table.proofs.StepLaws.{IsSection, step-same, section-of, length-body, next-at}
-use Rattle.boot_table.proofs.ReadLaws.{read-section, read-end, read-fault, step-ind}
+use Rattle.boot_table.proofs.ReadLaws.{read-section, read-end, read-fault, read-begins, step-ind}
 use Rattle.boot_table.proofs.RoundTrip.{length-chunk, length-table, read-table, table-read, valid-read}
 
 -- ---- which offsets are no pads
@@ -134,8 +134,8 @@ module _ (o : ByteOrder) (t u : List ℕ) (d : DifferInPads o t u) where
   pads-reading =
       by-cases (decLe 4 (length t))
       (λ h.
-      let r : reading o t ≡ readOn o t 4 = simp (le-ltb (length t) 4 h) in
-      let q : reading o u ≡ readOn o u 4 = simp (le-ltb (length u) 4 (omega (arith, d .long))) in
+      let r = read-begins o t h in
+      let q = read-begins o u (omega (arith, d .long)) in
       ap bareReading r ∙ read-alike o t u (d .long) 4 (λ i l p. d .same i (rw r p)) ∙ sym (ap bareReading q))
       (λ h. simp (lt-ltb (length t) 4 (omega arith), lt-ltb (length u) 4 (omega (arith, d .long))))
 

@@ -5,6 +5,7 @@ use mathlib.Core.List.{List, [], _∷_}
 use mathlib.Core.Logic.{by-cases, ⊎-elim}
 use native.Mathlib.Omega.{arith}
 use native.Mathlib.Decide.{decLe}
+use borrow.Author.Tests.{le-ltb}
 use lib.ListN.{length}
 use types.Run.{OneOf}
 use denote.Enum.Declared.{tagOf}
@@ -15,7 +16,7 @@ use Rattle.words.specs.Refusal.{TABLE-CUT}
 use Rattle.boot_table.proofs.Step.{the-type}
 use Rattle.boot_table.specs.declared.Step.{Step}
 use Rattle.boot_table.specs.declared.Step.the-variants.{Section, End, Fault}
-use Rattle.boot_table.specs.Table.{Reading, stop, stepAt, sectionAt, before, onStep, readFrom, readOn}
+use Rattle.boot_table.specs.Table.{Reading, stop, stepAt, sectionAt, before, onStep, readFrom, readOn, reading}
 use Rattle.boot_table.proofs.StepLaws.{IsSection, step-cut, section-of, end-of, fault-of, fault-number}
 
 -- ---- how many steps are allowed does not matter where they are enough
@@ -50,7 +51,7 @@ step-placed : (o : ByteOrder) (f : ℕ → Reading) (t : List ℕ) (at : ℕ) (s
 unfolding onStep before Placed
 step-placed o f t at (Section address size start next) e h on = on next (section-of o t at e .within)
 step-placed o f t at End e h on = (omega arith, omega arith)
-step-placed o f t at (Fault number place) e h on = let i = fault-of o t at e in (i .1, i .2 h)
+step-placed o f t at (Fault number place) e h on = let i = fault-of o t at e in (i .most, i .within h)
 
 from-placed : (o : ByteOrder) (n : ℕ) (t : List ℕ) (at : ℕ) → at ≤ length t → Placed t (readFrom o n t at)
 unfolding readFrom Placed
@@ -120,6 +121,11 @@ module _ (o : ByteOrder) (t : List ℕ) (at : ℕ) where
           rw (← (i .address-is), ← (i .size-is), ← (i .next-is), ← (i .start-is)) i
       go End e = absurd (n (end-of o t at e .1))
       go (Fault number place) e = absurd (read-no-fault e f)
+
+-- a table with its entry word is read from offset 4 on
+pub read-begins : (o : ByteOrder) (t : List ℕ) → 4 ≤ length t → reading o t ≡ readOn o t 4
+unfolding reading
+read-begins o t h = simp (le-ltb _ _ h)
 
 -- ---- induction over the steps
 

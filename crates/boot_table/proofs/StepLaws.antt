@@ -74,6 +74,13 @@ pub record IsSection (o : ByteOrder) (t : List ℕ) (at address size start next 
   pub address-is : address ≡ headerAt o t (at + 4)
   pub top : address + size ≤ 2 ^ 32
 
+-- the facts of a fault: a number from 1 to 8, and a place within the table; bytes after the zero word stand after a zero word
+pub record IsFault (o : ByteOrder) (t : List ℕ) (at number place : ℕ) : Type 0 where
+  pub least : 1 ≤ number
+  pub most : number ≤ 8
+  pub within : at ≤ length t → place ≤ length t
+  pub after : number ≡ BYTES-AFTER → (at + 4 ≤ length t) × (headerAt o t at ≡ 0)
+
 -- where the facts of a section hold the step finds it
 pub section-step : (o : ByteOrder) (t : List ℕ) (at : ℕ) {address size start next : ℕ} → IsSection o t at address size start next → stepAt o t at ≡ Section address size start next
 unfolding sectionStep nextOf
@@ -96,7 +103,7 @@ end-step o t at l z = step-zero o t at (headerAt o t at) (omega arith) refl z �
 Says : ByteOrder → List ℕ → ℕ → Step → Type 0
 Says o t at (Section address size start next) = IsSection o t at address size start next
 Says o t at End = (length t ≡ at + 4) × (headerAt o t at ≡ 0)
-Says o t at (Fault number place) = (1 ≤ number) × (number ≤ 8) × (at ≤ length t → place ≤ length t)
+Says o t at (Fault number place) = IsFault o t at number place
 
 section-says : (o : ByteOrder) (t : List ℕ) (at address size start next : ℕ) (s : Step) → IsSection o t at address size start next → Section address size start next ≡ s → Says o t at s
 unfolding Says
@@ -106,7 +113,7 @@ end-says : (o : ByteOrder) (t : List ℕ) (at : ℕ) (s : Step) → length t ≡
 unfolding Says
 end-says o t at s l z e = subst (Says o t at) e (l, z)
 
-fault-says : (o : ByteOrder) (t : List ℕ) (at number place : ℕ) (s : Step) → (1 ≤ number) × (number ≤ 8) × (at ≤ length t → place ≤ length t) → Fault number place ≡ s → Says o t at s
+fault-says : (o : ByteOrder) (t : List ℕ) (at number place : ℕ) (s : Step) → IsFault o t at number place → Fault number place ≡ s → Says o t at s
 unfolding Says
 fault-says o t at number place s h e = subst (Says o t at) e h
 
@@ -115,15 +122,20 @@ step-says : (o : ByteOrder) (t : List ℕ) (at : ℕ) (s : Step) → stepAt o t 
 unfolding stepAt endStep sectionStep nextOf
 step-says o t at s e =
     if-split (ltb (length t) (at + 4)) _ _ s e
-    (λ h1. fault-says o t at _ _ s (omega arith, omega arith, λ h. h))
+    (λ h1. fault-says o t at _ _ s (record { least = omega arith; most = omega arith; within = λ h. h; after = λ z. absurd (omega arith) }))
     (λ h1 e1. if-split (eqb (headerAt o t at) 0) _ _ s e1
     (λ h2 e2. if-split (ltb (at + 4) (length t)) _ _ s e2
-    (λ h3. fault-says o t at _ _ s (omega arith, omega arith, λ h. omega (arith, ltb-true (at + 4) (length t) h3)))
+    (λ h3. fault-says o t at _ _ s (record {
+      least = omega arith;
+      most = omega arith;
+      within = λ h. omega (arith, ltb-true (at + 4) (length t) h3);
+      after = λ z. (ltb-false _ _ h1, eqb-true _ _ h2);
+    }))
     (λ h3. end-says o t at s (omega (arith, ltb-false (length t) (at + 4) h1, ltb-false (at + 4) (length t) h3)) (eqb-true _ _ h2)))
     (λ h2 e2. if-split (ltb (length t) (nextOf at (headerAt o t at))) _ _ s e2
-    (λ h3. fault-says o t at _ _ s (omega arith, omega arith, λ h. h))
+    (λ h3. fault-says o t at _ _ s (record { least = omega arith; most = omega arith; within = λ h. h; after = λ z. absurd (omega arith) }))
     (λ h3 e3. if-split (ltb (2 ^ 32) (headerAt o t (at + 4) + headerAt o t at)) _ _ s e3
-    (λ h4. fault-says o t at _ _ s (omega arith, omega arith, λ h. h))
+    (λ h4. fault-says o t at _ _ s (record { least = omega arith; most = omega arith; within = λ h. h; after = λ z. absurd (omega arith) }))
     (λ h4. section-says o t at _ _ _ _ s (record {
       start-is = refl;
       next-is = refl;
@@ -145,13 +157,13 @@ pub end-of : (o : ByteOrder) (t : List ℕ) (at : ℕ) → stepAt o t at ≡ End
 unfolding Says
 end-of o t at e = step-says o t at End e
 
--- a fault has a number from 1 to 8, and a place within the table
-pub fault-of : (o : ByteOrder) (t : List ℕ) (at : ℕ) {number place : ℕ} → stepAt o t at ≡ Fault number place → (1 ≤ number) × (number ≤ 8) × (at ≤ length t → place ≤ length t)
+-- a fault that the step finds has its facts
+pub fault-of : (o : ByteOrder) (t : List ℕ) (at : ℕ) {number place : ℕ} → stepAt o t at ≡ Fault number place → IsFault o t at number place
 unfolding Says
 fault-of o t at {number} {place} e = step-says o t at (Fault number place) e
 
 pub fault-number : (o : ByteOrder) (t : List ℕ) (at : ℕ) {number place : ℕ} → stepAt o t at ≡ Fault number place → number ≡ 0 → ⊥
-fault-number o t at e z = omega (arith, fault-of o t at e .0)
+fault-number o t at e z = omega (arith, fault-of o t at e .least)
 
 -- ---- the last else of a let-else knows the tags that are left: 0 a section, 1 the end, 2 a fault
 

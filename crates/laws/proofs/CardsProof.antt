@@ -22,6 +22,8 @@ use Rattle.writer.specs.declared.Written.{Written}
 use Rattle.writer.specs.Write.{dataOf, sectOf, sectsOf, writtenTable, faultOf, listRule, roomRule, writeAnswer, writeOutput}
 use Rattle.query.specs.declared.Found.{Found}
 use Rattle.query.specs.Find.{hitOf, passing, walkFrom, headerWalk, walked, findAnswer, inNewer, chosen, partBytes, foundBytes}
+use Rattle.rescue.specs.declared.Rescued.{Rescued}
+use Rattle.rescue.specs.Rescue.{rescued, hasZero, usedBytes, rescueAnswer, rescueOutput}
 use Rattle.boot_config.specs.declared.Configured.{Configured}
 use Rattle.boot_config.specs.Registers.{rising, fit, indexOf, masked, changedBits}
 use Rattle.boot_config.specs.Config.{unmaskedAt, entryAt, onEntry, appliedFrom, applied, configAnswer, configValues}
@@ -29,7 +31,7 @@ use Rattle.boot_strap.specs.declared.StrapAnswer.{StrapAnswer}
 use Rattle.boot_strap.specs.declared.SameAnswer.{SameAnswer}
 use Rattle.boot_strap.specs.declared.LabelAnswer.{LabelAnswer}
 use Rattle.boot_strap.specs.Strap.{strapOf, isReserved, decodeAs, decodeShort, kindOf, fieldsOf, sameList, sameStrap, sameOf, sameAnswer, labelOf, labelAnswer}
-use Rattle.laws.specs.Cards.{Card, Load, Join, Write, Find, Configure, Decode, DecodeShort, Same, Label, Holds, AllHold, cards}
+use Rattle.laws.specs.Cards.{Card, Load, Join, Write, Find, Rescue, Configure, Decode, DecodeShort, Same, Label, Holds, AllHold, cards}
 
 -- ---- every card holds where the outcomes of the calls are those of the cards
 
@@ -39,6 +41,7 @@ data Outcome : Type 0 where
   Joins : Joined → List ℕ → Outcome
   Writes : Written → List ℕ → Outcome
   Finds : Found → List ℕ → Outcome
+  Rescues : Rescued → List ℕ → Outcome
   Configures : Configured → List ℕ → Outcome
   Decodes : StrapAnswer → Outcome
   Compares : SameAnswer → Outcome
@@ -50,6 +53,7 @@ given (Load order m t memory answer after) = Loads (loadAnswer order m t (length
 given (Join order first second output answer after) = Joins (joinAnswer order first second (length output)) (joinOutput order first second output)
 given (Write order entry sections bytes output answer after) = Writes (writeAnswer order entry sections bytes (length output)) (writeOutput order entry sections bytes output)
 given (Find order older newer address answer bytes) = Finds (findAnswer order older newer address) (foundBytes order older newer address)
+given (Rescue order t output answer after) = Rescues (rescueAnswer order t (length output)) (rescueOutput order t output)
 given (Configure t addresses values answer after) = Configures (configAnswer t addresses values) (configValues t addresses values)
 given (Decode manner value answer) = Decodes (decodeAs manner value)
 given (DecodeShort value answer) = Decodes (decodeShort value)
@@ -62,6 +66,7 @@ named (Load order m t memory answer after) = Loads answer after
 named (Join order first second output answer after) = Joins answer after
 named (Write order entry sections bytes output answer after) = Writes answer after
 named (Find order older newer address answer bytes) = Finds answer bytes
+named (Rescue order t output answer after) = Rescues answer after
 named (Configure t addresses values answer after) = Configures answer after
 named (Decode manner value answer) = Decodes answer
 named (DecodeShort value answer) = Decodes answer
@@ -74,6 +79,7 @@ card-holds (Load order m t memory answer after) e = (cc, cc)
 card-holds (Join order first second output answer after) e = (cc, cc)
 card-holds (Write order entry sections bytes output answer after) e = (cc, cc)
 card-holds (Find order older newer address answer bytes) e = (cc, cc)
+card-holds (Rescue order t output answer after) e = (cc, cc)
 card-holds (Configure t addresses values answer after) e = (cc, cc)
 card-holds (Decode manner value answer) e = cc
 card-holds (DecodeShort value answer) e = cc
@@ -97,6 +103,7 @@ unfolding given named wordAt wordBytes padCount headerAt headerBytes
     joined joinedLength joinAnswer joinOutput
     dataOf sectOf sectsOf writtenTable faultOf listRule roomRule writeAnswer writeOutput
     hitOf passing walkFrom headerWalk walked findAnswer inNewer chosen partBytes
+    rescued hasZero usedBytes rescueAnswer rescueOutput
     ones rising fit indexOf masked changedBits unmaskedAt entryAt onEntry appliedFrom applied configAnswer configValues
     strapOf isReserved decodeAs decodeShort kindOf fieldsOf sameList sameStrap sameOf sameAnswer labelOf labelAnswer
 everything = tt

@@ -3,7 +3,7 @@ use Prim.Native.Nat.{ℕ}
 use mathlib.Core.Path.{_≡_}
 use mathlib.Core.List.{List, [], _∷_, _++_}
 use mathlib.Core.Bool.{Bool, true, false}
-use lib.ListN.{length, replicate}
+use lib.ListN.{length, take, drop, replicate}
 use Rattle.words.specs.declared.ByteOrder.{ByteOrder}
 use Rattle.words.specs.declared.ByteOrder.the-variants.{HighFirst, LowFirst}
 use Rattle.loader.specs.declared.Answer.{Answer}
@@ -15,6 +15,8 @@ use Rattle.writer.specs.declared.Written.{Written}
 use Rattle.writer.specs.Write.{writeAnswer, writeOutput}
 use Rattle.query.specs.declared.Found.{Found}
 use Rattle.query.specs.Find.{findAnswer, foundBytes}
+use Rattle.rescue.specs.declared.Rescued.{Rescued}
+use Rattle.rescue.specs.Rescue.{rescueAnswer, rescueOutput}
 use Rattle.boot_config.specs.declared.Configured.{Configured}
 use Rattle.boot_config.specs.Config.{configAnswer, configValues}
 use Rattle.boot_strap.specs.declared.Manner.{Manner}
@@ -32,6 +34,7 @@ pub data Card : Type 0 where
   Join : ByteOrder → (first second output : List ℕ) → Joined → List ℕ → Card
   Write : ByteOrder → (entry : ℕ) → List Section → (bytes output : List ℕ) → Written → List ℕ → Card
   Find : ByteOrder → (older newer : List ℕ) → (address : ℕ) → Found → List ℕ → Card
+  Rescue : ByteOrder → (table output : List ℕ) → Rescued → List ℕ → Card
   Configure : (table addresses values : List ℕ) → Configured → List ℕ → Card
   Decode : Manner → ℕ → StrapAnswer → Card
   DecodeShort : ℕ → StrapAnswer → Card
@@ -44,6 +47,7 @@ Holds (Load order map table memory answer after) = (loadAnswer order map table (
 Holds (Join order first second output answer after) = (joinAnswer order first second (length output) ≡ answer) × (joinOutput order first second output ≡ after)
 Holds (Write order entry sections bytes output answer after) = (writeAnswer order entry sections bytes (length output) ≡ answer) × (writeOutput order entry sections bytes output ≡ after)
 Holds (Find order older newer address answer bytes) = (findAnswer order older newer address ≡ answer) × (foundBytes order older newer address ≡ bytes)
+Holds (Rescue order table output answer after) = (rescueAnswer order table (length output) ≡ answer) × (rescueOutput order table output ≡ after)
 Holds (Configure table addresses values answer after) = (configAnswer table addresses values ≡ answer) × (configValues table addresses values ≡ after)
 Holds (Decode manner value answer) = decodeAs manner value ≡ answer
 Holds (DecodeShort value answer) = decodeShort value ≡ answer
@@ -81,6 +85,12 @@ found table offset size read = record { number = 0; place = 0; table = table; of
 
 abbrev pub unfound : ℕ → ℕ → ℕ → Found
 unfound number place table = record { number = number; place = place; table = table; offset = 0; length = 0; read = 0 }
+
+abbrev pub saved : ℕ → ℕ → ℕ → Bool → Rescued
+saved n sections unused added = record { number = 0; place = 0; length = n; sections = sections; unused = unused; added = added }
+
+abbrev pub unsaved : ℕ → Rescued
+unsaved number = record { number = number; place = 0; length = 0; sections = 0; unused = 0; added = false }
 
 abbrev pub configured : ℕ → ℕ → Configured
 configured entries bits = record { number = 0; place = 0; entries = entries; bits = bits }
@@ -243,6 +253,19 @@ abbrev pub paddedP : List ℕ
 paddedP =
     0x00 ∷ 0x80 ∷ 0x00 ∷ 0x00 ∷ 0x00 ∷ 0x00 ∷ 0x00 ∷ 0x03 ∷ 0x00 ∷ 0x80 ∷ 0x00 ∷ 0x02 ∷ 0xA1 ∷ 0xA2 ∷ 0xA3 ∷ 0x01 ∷ 0x00 ∷ 0x00 ∷ 0x00 ∷ 0x00 ∷ []
 
+-- the section of P with Q's entry, in each byte order, and an entry word that is read in the wrong order, without sections
+abbrev pub firstOfPQ : List ℕ
+firstOfPQ =
+    0x00 ∷ 0x80 ∷ 0x00 ∷ 0x04 ∷ 0x00 ∷ 0x00 ∷ 0x00 ∷ 0x03 ∷ 0x00 ∷ 0x80 ∷ 0x00 ∷ 0x02 ∷ 0xA1 ∷ 0xA2 ∷ 0xA3 ∷ 0x00 ∷ 0x00 ∷ 0x00 ∷ 0x00 ∷ 0x00 ∷ []
+
+abbrev pub lowFirstOfPQ : List ℕ
+lowFirstOfPQ =
+    0x04 ∷ 0x00 ∷ 0x80 ∷ 0x00 ∷ 0x03 ∷ 0x00 ∷ 0x00 ∷ 0x00 ∷ 0x02 ∷ 0x00 ∷ 0x80 ∷ 0x00 ∷ 0xA1 ∷ 0xA2 ∷ 0xA3 ∷ 0x00 ∷ 0x00 ∷ 0x00 ∷ 0x00 ∷ 0x00 ∷ []
+
+abbrev pub noSectionsTurned : List ℕ
+noSectionsTurned =
+    0x00 ∷ 0x00 ∷ 0x80 ∷ 0x00 ∷ 0x00 ∷ 0x00 ∷ 0x00 ∷ 0x00 ∷ []
+
 -- one and two bytes at 0x0080000F, and at 0xFFFFFFFF
 abbrev pub lastByteTable : List ℕ
 lastByteTable =
@@ -273,7 +296,7 @@ bothMasks =
 
 -- ---- the cards
 
--- the twelve cards of document 01, card 6 as request 2 and card 12 as request 7 of document 02 have them; for request 8 P and Q low first, and a word of four different bytes in each order; for request 10 maps with kind 3; for request 1 tables that are written from lists; and for request 4 what stands at an address
+-- the twelve cards of document 01, card 6 as request 2 and card 12 as request 7 of document 02 have them; for request 8 P and Q low first, and a word of four different bytes in each order; for request 10 maps with kind 3; for request 1 tables that are written from lists; for request 4 what stands at an address; and for request 12 tables that are rescued
 abbrev pub cards : List Card
 cards =
     -- 1: P under M
@@ -421,4 +444,43 @@ cards =
     Find HighFirst pastTopTable tableP 0x00800004 (unfound 8 4 1) [] ∷
     Find HighFirst tableP [] 0x00800004 (unfound 5 0 2) [] ∷
     Find LowFirst tableP lowQ 0x00800004 (unfound 5 4 1) [] ∷
+    -- rescued: an entry word and a zero word, P, P with its pad byte 01, a byte at the last address, and P low first come back as they are
+    Rescue HighFirst noSections output (saved 8 0 0 false) (noSections ++ replicate 28 0xEE) ∷
+    Rescue HighFirst tableP output (saved 20 1 0 false) (tableP ++ replicate 16 0xEE) ∷
+    Rescue HighFirst paddedP output (saved 20 1 0 false) (paddedP ++ replicate 16 0xEE) ∷
+    Rescue HighFirst topTable output (saved 20 1 0 false) (topTable ++ replicate 16 0xEE) ∷
+    Rescue LowFirst lowP output (saved 20 1 0 false) (lowP ++ replicate 16 0xEE) ∷
+    -- P with one byte more, P with Q behind it, and P's section behind a zero word: what stands after the word is not used
+    Rescue HighFirst longP output (saved 20 1 1 false) (tableP ++ replicate 16 0xEE) ∷
+    Rescue HighFirst (tableP ++ tableQ) output (saved 20 1 20 false) (tableP ++ replicate 16 0xEE) ∷
+    Rescue HighFirst (noSections ++ drop 4 tableP) output (saved 8 0 16 false) (noSections ++ replicate 28 0xEE) ∷
+    -- P without its last byte, and cut right behind its section
+    Rescue HighFirst shortP output (saved 20 1 3 true) (tableP ++ replicate 16 0xEE) ∷
+    Rescue HighFirst (take 16 tableP) output (saved 20 1 0 true) (tableP ++ replicate 16 0xEE) ∷
+    -- P cut in its pad, in its data, in its address word and in its size word, and its entry word alone
+    Rescue HighFirst (take 15 tableP) output (saved 8 0 11 true) (noSections ++ replicate 28 0xEE) ∷
+    Rescue HighFirst (take 14 tableP) output (saved 8 0 10 true) (noSections ++ replicate 28 0xEE) ∷
+    Rescue HighFirst (take 9 tableP) output (saved 8 0 5 true) (noSections ++ replicate 28 0xEE) ∷
+    Rescue HighFirst (take 6 tableP) output (saved 8 0 2 true) (noSections ++ replicate 28 0xEE) ∷
+    Rescue HighFirst (take 4 tableP) output (saved 8 0 0 true) (noSections ++ replicate 28 0xEE) ∷
+    -- P joined with Q, cut before the data of its second section, in the pads of that, and behind them, and so low first; P with its pad byte 01, without its last byte
+    Rescue HighFirst (take 24 joinPQ) output (saved 20 1 8 true) (firstOfPQ ++ replicate 16 0xEE) ∷
+    Rescue HighFirst (take 27 joinPQ) output (saved 20 1 11 true) (firstOfPQ ++ replicate 16 0xEE) ∷
+    Rescue HighFirst (take 28 joinPQ) output (saved 32 2 0 true) (joinPQ ++ replicate 4 0xEE) ∷
+    Rescue LowFirst (take 27 lowPQ) output (saved 20 1 11 true) (lowFirstOfPQ ++ replicate 16 0xEE) ∷
+    Rescue LowFirst (take 28 lowPQ) output (saved 32 2 0 true) (lowPQ ++ replicate 4 0xEE) ∷
+    Rescue HighFirst (take 19 paddedP) output (saved 20 1 3 true) (paddedP ++ replicate 16 0xEE) ∷
+    -- a section past the top; P's section, one past the top, and Q's, which is not reached; P's section and erased flash; P low first, read in the wrong order
+    Rescue HighFirst pastTopTable output (saved 8 0 16 true) (noSections ++ replicate 28 0xEE) ∷
+    Rescue HighFirst (take 16 tableP ++ take 12 (drop 4 pastTopTable) ++ drop 4 tableQ) output (saved 20 1 28 true) (tableP ++ replicate 16 0xEE) ∷
+    Rescue HighFirst (take 16 tableP ++ replicate 8 0xFF) output (saved 20 1 8 true) (tableP ++ replicate 16 0xEE) ∷
+    Rescue HighFirst lowP output (saved 8 0 16 true) (noSectionsTurned ++ replicate 28 0xEE) ∷
+    -- no bytes, also where the output has none, and an entry word that is cut
+    Rescue HighFirst [] [] (unsaved 5) [] ∷
+    Rescue HighFirst [] output (unsaved 5) output ∷
+    Rescue HighFirst (take 3 tableP) output (unsaved 5) output ∷
+    -- an output exactly as long as the result, and one byte shorter, for P without its last byte and for P
+    Rescue HighFirst shortP (replicate 20 0xEE) (saved 20 1 3 true) tableP ∷
+    Rescue HighFirst shortP (replicate 19 0xEE) (unsaved 11) (replicate 19 0xEE) ∷
+    Rescue HighFirst tableP (replicate 19 0xEE) (unsaved 11) (replicate 19 0xEE) ∷
     []

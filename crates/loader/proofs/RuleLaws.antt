@@ -5,14 +5,13 @@ use mathlib.Core.Option.{Option, none, some}
 use Prim.Native.Nat.{ℕ, _+_, _-_, _≤_}
 use native.Mathlib.Omega.{arith}
 use lib.ListN.{length}
-use borrow.Author.Tests.{le-ltb}
 use Rattle.words.specs.declared.ByteOrder.{ByteOrder}
 use Rattle.region_map.specs.Map.{closedFrom}
 use Rattle.region_map.proofs.OpenLaws.{open-each, each-open}
 use Rattle.boot_table.specs.declared.Step.the-variants.{Section, End}
-use Rattle.boot_table.specs.Table.{Sect, nextOf, stepAt, sectionAt, before, readOn, reading}
+use Rattle.boot_table.specs.Table.{Sect, Reading, nextOf, stepAt, sectionAt, before, readOn, reading}
 use Rattle.boot_table.proofs.StepLaws.{section-of, length-body, next-at}
-use Rattle.boot_table.proofs.ReadLaws.{read-section, read-end}
+use Rattle.boot_table.proofs.ReadLaws.{read-section, read-end, read-begins}
 use Rattle.boot_table.proofs.FormLaws.{form-section}
 use Rattle.boot_table.specs.Valid.{All, none as all-none, also}
 use Rattle.boot_table.proofs.MeaningLaws.{covers-true, covers-in}
@@ -79,8 +78,7 @@ rule-refused m at (s ∷ ss) fine other z n =
 
 -- the walk begins behind the entry word
 pub rule-start : (o : ByteOrder) (m t : List ℕ) (fine : Answer) → 4 ≤ length t → mapRule m fine 4 (reading o t .sections) ≡ mapRule m fine 4 (readOn o t 4 .sections)
-unfolding reading
-rule-start o m t fine h = simp (le-ltb (length t) 4 h)
+rule-start o m t fine h = ap (λ (r : Reading). mapRule m fine 4 (r .sections)) (read-begins o t h)
 
 all-split : {P : Sect → Type 0} {s : Sect} {ss : List Sect} → All P (s ∷ ss) → P s × (All P ss)
 all-split (also p ps) = (p, ps)

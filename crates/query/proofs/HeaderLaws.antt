@@ -6,17 +6,17 @@ use mathlib.Core.Bool.{true, _&&_}
 use mathlib.Core.Logic.{by-cases}
 use native.Mathlib.Omega.{arith}
 use native.Mathlib.Decide.{decLe, ℕ-discrete}
-use borrow.Author.Tests.{ne-eqb, le-leb, lt-ltb, le-ltb}
+use borrow.Author.Tests.{ne-eqb, le-leb, lt-ltb}
 use lib.ListN.{length, getD}
 use lib.Dec.{leb, ltb, eqb}
 use Rattle.words.specs.declared.ByteOrder.{ByteOrder}
 use Rattle.words.specs.Header.{headerAt}
 use Rattle.words.proofs.ChoiceLaws.{or-yes, if-both}
 use Rattle.words.proofs.HeaderLaws.{header-same}
-use Rattle.boot_table.specs.Table.{Sect, nextOf, endStep, stepAt, sectionAt, before, readOn, reading}
+use Rattle.boot_table.specs.Table.{Sect, nextOf, endStep, stepAt, sectionAt, before, readOn}
 use Rattle.boot_table.specs.Form.{tableLimit}
 use Rattle.boot_table.proofs.StepLaws.{IsSection, step-same, section-of, next-at}
-use Rattle.boot_table.proofs.ReadLaws.{read-section, step-ind}
+use Rattle.boot_table.proofs.ReadLaws.{read-section, read-begins, step-ind}
 use Rattle.query.specs.declared.Hit.{Hit}
 use Rattle.query.specs.declared.Hit.the-variants.{Nowhere}
 use Rattle.query.specs.Find.{latest, walked, findAnswer}
@@ -85,12 +85,11 @@ module _ (o : ByteOrder) (t u : List ℕ) (long : length t ≡ length u) where
 
 -- tables with the same headers are walked alike
 same-walked : (o : ByteOrder) (t u : List ℕ) (a : ℕ) → SameHeaders o t u → walked o t a ≡ walked o u a
-unfolding reading
 same-walked o t u a s =
     by-cases (decLe (length t) tableLimit)
     (λ h. by-cases (decLe 4 (length t))
     (λ k.
-    let r : reading o t ≡ readOn o t 4 = simp (le-ltb (length t) 4 k) in
+    let r = read-begins o t k in
     walk-start o t a h k ∙ walked-alike o t u (s .long) a 4 (λ i e. s .same i (rw r e)) Nowhere 0
     ∙ sym (walk-start o u a (omega (arith, s .long)) (omega (arith, s .long))))
     (λ n. walk-cut o t a h (omega arith) ∙ sym (walk-cut o u a (omega (arith, s .long)) (omega (arith, s .long)))))

@@ -10,6 +10,7 @@ use Rattle.loader.specs.declared.Answer.{Answer}
 use Rattle.joiner.specs.declared.Joined.{Joined}
 use Rattle.writer.specs.declared.Written.{Written}
 use Rattle.query.specs.declared.Found.{Found}
+use Rattle.rescue.specs.declared.Rescued.{Rescued}
 use Rattle.boot_config.specs.declared.Configured.{Configured}
 use Rattle.boot_strap.specs.declared.Manner.{Manner}
 use Rattle.boot_strap.specs.declared.Manner.the-variants.{Strict, Lenient}
@@ -35,6 +36,10 @@ writeNumbers r = r .number ∷ r .place ∷ r .length ∷ r .sections ∷ []
 -- number, place, table, offset, length, bytes read
 unfoldable pub findNumbers : Found → List ℕ
 findNumbers r = r .number ∷ r .place ∷ r .table ∷ r .offset ∷ r .length ∷ r .read ∷ []
+
+-- number, place, length, sections, bytes not used, whether the zero word was added
+unfoldable pub rescueNumbers : Rescued → List ℕ
+rescueNumbers r = r .number ∷ r .place ∷ r .length ∷ r .sections ∷ r .unused ∷ boolByte (r .added) ∷ []
 
 -- number, place, entries, bits
 unfoldable pub configNumbers : Configured → List ℕ

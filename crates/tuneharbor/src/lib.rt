@@ -6,9 +6,10 @@ ghost use Rattle.loader.specs.Load.{judgeAnswer, loadAnswer, loadMemory};
 ghost use Rattle.joiner.specs.Join.{joinAnswer, joinOutput};
 ghost use Rattle.writer.specs.Write.{writeAnswer, writeOutput};
 ghost use Rattle.query.specs.Find.{findAnswer};
+ghost use Rattle.rescue.specs.Rescue.{rescueAnswer, rescueOutput};
 ghost use Rattle.boot_config.specs.Config.{configAnswer, configValues};
 ghost use Rattle.boot_strap.specs.Strap.{numbersAs, numbersShort, nine, sameAnswer, labelAnswer};
-ghost use Rattle.tuneharbor.specs.Numbers.{mapNumbers, loadNumbers, joinNumbers, writeNumbers, findNumbers, configNumbers};
+ghost use Rattle.tuneharbor.specs.Numbers.{mapNumbers, loadNumbers, joinNumbers, writeNumbers, findNumbers, rescueNumbers, configNumbers};
 ghost use Rattle.tuneharbor.specs.Numbers.{orderOf, mannerOf, sameNumbers, labelNumbers};
 use boot_config::configure;
 use boot_strap::Manner;
@@ -18,6 +19,7 @@ use loader::judge;
 use loader::load;
 use query::find;
 use region_map::judge_map;
+use rescue::rescue;
 use words::ByteOrder;
 use writer::Section;
 use writer::Written;
@@ -153,6 +155,28 @@ pub extern "C" fn tuneharbor_find(
         found.offset as u64,
         found.length as u64,
         found.read as u64,
+    ];
+}
+
+// Rescues the whole sections of a table into an output.
+#[no_mangle]
+pub extern "C" fn tuneharbor_rescue(
+    table: &[u8],
+    low_first: bool,
+    output: &mut [u8],
+    answer: &mut [u64; 6],
+)
+    ensures { λ _. ⌜ now (answer .exit) ≡ rescueNumbers (rescueAnswer (orderOf «low_first») (now (table .entry)) (length (now (output .entry)))) ⌝ }
+    ensures { λ _. ⌜ now (output .exit) ≡ rescueOutput (orderOf «low_first») (now (table .entry)) (now (output .entry)) ⌝ }
+{
+    let rescued = rescue(table, order_of(low_first), output);
+    *answer = [
+        rescued.number as u64,
+        rescued.place as u64,
+        rescued.length as u64,
+        rescued.sections as u64,
+        rescued.unused as u64,
+        rescued.added as u64,
     ];
 }
 

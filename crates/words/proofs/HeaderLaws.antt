@@ -1,7 +1,7 @@
 -- Laws of header words, over the byte order: what is written is read back, and what is read is written back. Only these go by the order's cases.
-use Prim.Native.Nat.{ℕ, _+_, _*_, _^_, _≤_, _<_}
+use Prim.Native.Nat.{ℕ, zero, suc, _+_, _*_, _^_, _≤_, _<_}
 use mathlib.Core.Path.{_≡_, refl, sym, ap, _∙_}
-use mathlib.Core.List.{List, _++_, reverse}
+use mathlib.Core.List.{List, [], _∷_, _++_, reverse}
 use native.Mathlib.Nat.{add-zero, zero-add}
 use native.Mathlib.Omega.{arith}
 use lib.ListN.{length, getD, take, drop}
@@ -60,3 +60,16 @@ pub header-lt : (o : ByteOrder) (t : List ℕ) (i : ℕ) → Bytes t → headerA
 unfolding headerAt
 header-lt HighFirst t i b = word-lt t i b
 header-lt LowFirst t i b = omega (arith, b i, b (i + 1), b (i + 2), b (i + 3))
+
+-- what a word is written as is bytes
+four-bytes : (a b c d : ℕ) → a < 256 → b < 256 → c < 256 → d < 256 → Bytes (a ∷ b ∷ c ∷ d ∷ [])
+four-bytes a b c d p q r s zero = p
+four-bytes a b c d p q r s (suc zero) = q
+four-bytes a b c d p q r s (suc (suc zero)) = r
+four-bytes a b c d p q r s (suc (suc (suc zero))) = s
+four-bytes a b c d p q r s (suc (suc (suc (suc i)))) = omega arith
+
+pub written-bytes : (o : ByteOrder) (n : ℕ) → Bytes (headerBytes o n)
+unfolding headerBytes wordBytes
+written-bytes HighFirst n = four-bytes _ _ _ _ (omega arith) (omega arith) (omega arith) (omega arith)
+written-bytes LowFirst n = four-bytes _ _ _ _ (omega arith) (omega arith) (omega arith) (omega arith)

@@ -107,14 +107,17 @@ fn print_header() {
     println!("of {REPEATS} repeats, in slow cases of fewer, but at least of {FEWEST}.");
     println!("Buffers are touched once before timing: tables, lists, data, memory, output,");
     println!("values.");
-    println!("case: the order of the sections (load, judge, join, write, find), of the records");
-    println!("(map), of the entries (configure). Under a table the records touch and stand in");
-    println!("falling order; apart: they do not touch; reserved: half of them are reserved;");
-    println!("once: half of the sections lie in kind 3, or all of them where there is one");
-    println!("record. find: one section of the older table covers the address; all cover: each");
-    println!("section of both tables does; in turns: rising, and fast walks both tables in turns.");
-    println!("sections, bytes: of the table, for join and find of both tables, for write of the");
-    println!("table that is written; bytes are data bytes, for configure those of the entries.");
+    println!("case: the order of the sections (load, judge, join, write, find, rescue), of the");
+    println!("records (map), of the entries (configure). Under a table the records touch and");
+    println!("stand in falling order; apart: they do not touch; reserved: half of them are");
+    println!("reserved; once: half of the sections lie in kind 3, or all of them where there is");
+    println!("one record. find: one section of the older table covers the address; all cover:");
+    println!("each section of both tables does; in turns: rising, and fast walks both tables in");
+    println!("turns. cut: the table ends in a further section, and that of one section ends in");
+    println!("its zero word.");
+    println!("sections, bytes: of the table, for join and find of both tables, for write and");
+    println!("rescue of the table that is written; bytes are data bytes, for configure those of");
+    println!("the entries, for rescue all that are kept of the table.");
     println!("records: map records.");
     println!("memcpy: copy_from_slice of as many bytes; none where the call copies nothing.");
     println!("lib/fast, lib/memcpy: the library's time over the other's.");
@@ -757,6 +760,68 @@ fn finds(numbers: &mut Numbers) {
     find(numbers, "all cover", &lists, size, BASE + 1, fast::find);
 }
 
+/// A table of sections of one size, one after the other, of which so many last bytes are
+/// cut off: some of the zero word, or all of it and some of the last section. So many
+/// sections are then kept. The output has the result's length.
+fn rescue(numbers: &mut Numbers, sections: usize, size: usize, off: usize, kept: usize) {
+    let rows = Rows {
+        sections,
+        size,
+        rows: 1,
+        gap: 0,
+    };
+    let mut table = even_table(numbers, &rows.addresses(), size);
+    table.bytes.truncate(table.bytes.len() - off);
+    let mut output = vec![0x5A; 8 + kept * (8 + size.next_multiple_of(4))];
+
+    for order in ByteOrder::BOTH {
+        table.write_in(order);
+        assert!(table.bytes.len() <= TABLE_LIMIT);
+        output.fill(0x5A);
+        let answer = calls::rescue(table.read(), order, &mut output);
+        let mut other = vec![0xA5; output.len()];
+        assert_eq!(answer, fast::rescue(table.read(), order, &mut other));
+        assert!(output == other, "the same output");
+        let answered = (answer.number, answer.sections, answer.added);
+        assert_eq!(answered, (0, kept as u64, 1));
+    }
+
+    type Rescued = (Table, Vec<u8>);
+    let [mut high, low] = ByteOrder::BOTH.map(|order| Group {
+        before: Box::new(move |(table, _): &mut Rescued| table.write_in(order)),
+        works: vec![
+            Box::new(move |(table, output)| {
+                black_box(calls::rescue(table.read(), order, output));
+            }),
+            Box::new(move |(table, output)| {
+                black_box(fast::rescue(table.read(), order, output));
+            }),
+        ],
+    });
+    // All but the zero word.
+    let bytes = output.len() - 4;
+    high.works.push(Box::new(move |(table, output)| {
+        output[..bytes].copy_from_slice(&table.bytes[..bytes]);
+    }));
+    let line = Line {
+        call: "rescue",
+        case: "rising, cut",
+        sections: Some(kept),
+        bytes: Some(bytes),
+        ..Default::default()
+    };
+    print_orders(line, measure(&mut (table, output), [high, low]));
+}
+
+/// The largest section that the limit takes, with two bytes of its zero word; 20,000
+/// sections that nearly fill the limit, and a round million of one byte, each with a
+/// further section that is cut by two bytes.
+fn rescues(numbers: &mut Numbers) {
+    rescue(numbers, 1, TABLE_LIMIT - 16, 2, 1);
+    rescue(numbers, 20_001, 828, 6, 20_000);
+    rescue(numbers, 1_000_001, 1, 6, 1_000_000);
+}
+
 fn configure(numbers: &mut Numbers) {
     let addresses: Vec<u32> = (0..REGISTER_LIMIT as u32)
         .map(|i| 0x0262_0000 + 4 * i)
@@ -908,6 +973,7 @@ fn main() {
     }
     writes(&mut Numbers::new(cases::SEED, 81));
     finds(&mut Numbers::new(cases::SEED, 82));
+    rescues(&mut Numbers::new(cases::SEED, 83));
     configure(&mut numbers);
     straps(&mut numbers);
 }

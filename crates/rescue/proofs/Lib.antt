@@ -1,0 +1,4 @@
+pub mod WholeRunLaws
+pub mod AnswerLaws
+pub mod CutLaws
+pub mod RescuingProof

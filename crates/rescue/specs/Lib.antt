@@ -1,0 +1,3 @@
+pub mod Rescue
+pub mod Rescuing
+pub mod WholeRun
