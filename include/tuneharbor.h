@@ -18,7 +18,8 @@
  * first, false for the high byte first. A call has one order for all its boot
  * tables. No call finds out the order: a table in the other order is read as
  * it then stands, and is mostly refused, but can be accepted with another
- * meaning. Data bytes and pads are never reordered. The words of maps and of
+ * meaning; tuneharbor_rescue does not refuse it, and mostly keeps no section.
+ * Data bytes and pads are never reordered. The words of maps and of
  * configuration tables have the high byte first. */
 #ifndef TUNEHARBOR_H
 #define TUNEHARBOR_H

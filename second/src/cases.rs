@@ -1080,10 +1080,20 @@ fn cut_at(numbers: &mut Numbers, length: usize, sections: &[Section]) -> usize {
     numbers.from_to(low as u64, high as u64) as usize
 }
 
+/// Where the whole sections of a table end, by the first fault of its form: 0 where the
+/// entry word is cut.
+pub fn whole_sections_end(table: &[u8], order: ByteOrder) -> usize {
+    match reference::read_table(table, order) {
+        Ok(_) => table.len() - 4,
+        Err(refusal) if refusal.number == 7 => refusal.place as usize - 4,
+        Err(refusal) => refusal.place as usize,
+    }
+}
+
 /// Puts a fault in one section of a table, or what is next to one: a zero word in
 /// place of its size; a size up to the table's end, past it, or so large that a sum
-/// taken in 32 bits comes round; an address from which it runs to the top, or past
-/// it by one byte or by more.
+/// taken in 32 bits comes round, with a sign or without; an address from which it runs
+/// to the top, or past it by one byte or by more.
 fn fault_in_section(
     numbers: &mut Numbers,
     bytes: &mut [u8],

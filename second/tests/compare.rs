@@ -546,11 +546,7 @@ impl RescueHits {
         };
         let fault = reference::read_table(table, order);
         // The sections before the fault, and where they end.
-        let at = match &fault {
-            Ok(_) => table.len() - 4,
-            Err(refusal) if refusal.number == 7 => refusal.place as usize - 4,
-            Err(refusal) => refusal.place as usize,
-        };
+        let at = cases::whole_sections_end(table, order);
         let front = [&table[..at], &[0; 4]].concat();
         let kept = reference::read_table(&front, order).expect("whole sections");
         let kept = kept.sections;

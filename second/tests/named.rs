@@ -2887,7 +2887,7 @@ fn the_second_of_two_sections_is_cut() {
 #[test]
 fn a_rescued_size_does_not_come_round_at_zero() {
     for order in ByteOrder::BOTH {
-        // Rounded up, and with its two words, such a size is 2^32 or more.
+        // Rounded up, with its two words and its offset, such a size is 2^32 or more.
         for size in [
             0xFFFF_FFF4,
             0xFFFF_FFF5,
@@ -3181,7 +3181,7 @@ fn as_many_rescued_sections_as_the_limit_takes() {
         many.extend([0; 4]);
         let end = many.len() - 4;
         rescues(&many, order, &many, (1_398_100, 0, false));
-        // Cut in the last section, and right behind it.
+        // Cut right behind the last section, and in it.
         rescues(&many[..end], order, &many, (1_398_100, 0, true));
         let less = [&many[..end - 12], &[0; 4]].concat();
         rescues(&many[..end - 1], order, &less, (1_398_099, 11, true));

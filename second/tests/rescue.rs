@@ -244,7 +244,7 @@ fn a_fault_in_a_section_keeps_those_before_it() {
             gives(numbers, (&table, order), kept, left - 4, false);
 
             // A size over what is left, by one byte or so much that sums in 32 bits come
-            // round; past the top too, and not.
+            // round, with a sign or without; past the top too, and not.
             let room = (left - 8) as u32;
             for size in [
                 room + 1,
@@ -440,11 +440,7 @@ fn what_stands_after_the_zero_word_does_not_matter() {
 /// What must be written of a table, by the first fault of its form: all that stands
 /// before it, and a zero word; none where the entry word is cut.
 fn up_to_the_fault(table: &[u8], order: ByteOrder) -> Option<Vec<u8>> {
-    let end = match reference::read_table(table, order) {
-        Ok(_) => table.len() - 4,
-        Err(refusal) if refusal.number == 7 => refusal.place as usize - 4,
-        Err(refusal) => refusal.place as usize,
-    };
+    let end = cases::whole_sections_end(table, order);
     (end > 0).then(|| [&table[..end], &[0; 4]].concat())
 }
 

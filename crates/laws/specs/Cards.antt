@@ -463,7 +463,7 @@ cards =
     Rescue HighFirst (take 9 tableP) output (saved 8 0 5 true) (noSections ++ replicate 28 0xEE) ∷
     Rescue HighFirst (take 6 tableP) output (saved 8 0 2 true) (noSections ++ replicate 28 0xEE) ∷
     Rescue HighFirst (take 4 tableP) output (saved 8 0 0 true) (noSections ++ replicate 28 0xEE) ∷
-    -- P joined with Q, cut before the data of its second section, in the pads of that, and behind them, and so low first; P with its pad byte 01, without its last byte
+    -- P joined with Q, cut before the data of its second section, in the pads of that, and behind them; in and behind them low first; P with its pad byte 01, without its last byte
     Rescue HighFirst (take 24 joinPQ) output (saved 20 1 8 true) (firstOfPQ ++ replicate 16 0xEE) ∷
     Rescue HighFirst (take 27 joinPQ) output (saved 20 1 11 true) (firstOfPQ ++ replicate 16 0xEE) ∷
     Rescue HighFirst (take 28 joinPQ) output (saved 32 2 0 true) (joinPQ ++ replicate 4 0xEE) ∷

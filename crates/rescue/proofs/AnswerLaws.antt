@@ -10,7 +10,7 @@ use Rattle.words.specs.Refusal.{TABLE-LONG, TABLE-CUT, RESULT-LONG, OUTPUT-SHOR
 use Rattle.words.proofs.ChoiceLaws.{if-cases}
 use Rattle.boot_table.specs.Form.{tableLimit}
 use Rattle.rescue.specs.declared.Rescued.{Rescued}
-use Rattle.rescue.specs.Rescue.{rescued, rescuedAnswer, rescueRefused, rescueAnswer, rescueOutput}
+use Rattle.rescue.specs.Rescue.{rescued, doneAnswer, rescueRefused, rescueAnswer, rescueOutput}
 
 -- ---- each answer
 
@@ -34,7 +34,7 @@ module _ (o : ByteOrder) (t : List ℕ) (room : ℕ) where
         unfolding rescueAnswer
         output-short h = simp (le-ltb _ _ short, le-ltb _ _ long, le-ltb _ _ fits, lt-ltb _ _ h)
 
-        pub rescue-done : length (rescued o t) ≤ room → rescuedAnswer o t ≡ rescueAnswer o t room
+        pub rescue-done : length (rescued o t) ≤ room → doneAnswer o t ≡ rescueAnswer o t room
         unfolding rescueAnswer
         rescue-done h = simp (le-ltb _ _ short, le-ltb _ _ long, le-ltb _ _ fits, le-ltb _ _ h)
 
@@ -51,7 +51,7 @@ pub by-answer : (o : ByteOrder) (t : List ℕ) (room : ℕ) (P : Rescued → Typ
     → (length t < 4 → P (rescueRefused TABLE-CUT))
     → (tableLimit < length (rescued o t) → P (rescueRefused RESULT-LONG))
     → (4 ≤ length t → room < length (rescued o t) → P (rescueRefused OUTPUT-SHORT))
-    → (Fits o t room → P (rescuedAnswer o t))
+    → (Fits o t room → P (doneAnswer o t))
     → P (rescueAnswer o t room)
 unfolding rescueAnswer
 by-answer o t room P p4 p5 p10 p11 p0 =

@@ -13,7 +13,8 @@ use Rattle.words.specs.Choice.{if}
 use Rattle.words.specs.Word.{Bytes}
 use Rattle.words.specs.Header.{headerAt, headerBytes}
 use Rattle.words.specs.Refusal.{TABLE-CUT, RESULT-LONG, OUTPUT-SHORT}
-use Rattle.words.proofs.WordLaws.{bytes-take, bytes-append}
+use Rattle.words.proofs.ChoiceLaws.{both-ways}
+use Rattle.words.proofs.WordLaws.{bytes-take, bytes-append, bytes-parts}
 use Rattle.words.proofs.HeaderLaws.{length-header, header-lt, header-seam, header-bytes, written-bytes}
 use Rattle.boot_table.specs.Table.{Sect, Reading, entryOf, chunks, tableOf, readOn, reading}
 use Rattle.boot_table.specs.Form.{tableLimit, WellFormed}
@@ -24,8 +25,8 @@ use Rattle.boot_table.proofs.FormLaws.{well-long, well-read}
 use Rattle.boot_table.proofs.FrontLaws.{behind, zero-word, read-valid, table-front}
 use Rattle.boot_table.proofs.RoundTrip.{andThen, read-run, read-table, entry-table, table-read, valid-read, length-read, length-table}
 use Rattle.rescue.specs.declared.Rescued.{Rescued}
-use Rattle.rescue.specs.Rescue.{kept, rescued, hasZero, zeroAdded, usedBytes, rescuedAnswer, rescueRefused, rescueAnswer, rescueOutput}
-use Rattle.rescue.specs.Rescuing.{Refuses, Gives, BeginsWith, Longest, Damaged, endingBy, Succeeds, rescuedIn, Holds, AddsUp, Rescuing}
+use Rattle.rescue.specs.Rescue.{kept, rescued, hasZero, zeroAdded, usedBytes, doneAnswer, rescueRefused, rescueAnswer, rescueOutput}
+use Rattle.rescue.specs.Rescuing.{Refuses, Gives, BeginsWith, Longest, HasTable, endingBy, Succeeds, rescuedIn, Holds, AddsUp, Rescuing}
 use Rattle.rescue.specs.WholeRun.{runOn, wholeRun}
 use Rattle.rescue.proofs.WholeRunLaws.{length-rescued, run-within, rescued-front, zero-stands, used-within}
 use Rattle.rescue.proofs.AnswerLaws.{Fits, by-answer, table-long, entry-cut, result-long, output-short, rescue-done, output-kept, output-rescued}
@@ -49,7 +50,7 @@ module _ (o : ByteOrder) (t out result : List ℕ) (k : Taken t) (is : rescued o
       let e = rescue-done o t (length out) (k .short) (k .long) (rw is limit) (rw is room) in
       record {
         answer = sym e ∙ (λ i. record { number = 0; place = 0; length = length (is i); sections = count i; unused = left i; added = word i });
-        output = sym (output-rescued o t out (rescuedAnswer o t) e refl) ∙ rw is refl;
+        output = sym (output-rescued o t out (doneAnswer o t) e refl) ∙ rw is refl;
       }
 
   too-long : tableLimit < length result → Refuses o t out RESULT-LONG
@@ -65,11 +66,11 @@ fits-of o t room =
     (λ a z. absurd (omega arith)) (λ a z. absurd (omega arith)) (λ a z. absurd (omega arith)) (λ a b z. absurd (omega arith)) (λ f z. f)
 
 module _ (o : ByteOrder) (t out : List ℕ) (f : Fits o t (length out)) where
-  answer-of : rescueAnswer o t (length out) ≡ rescuedAnswer o t
+  answer-of : rescueAnswer o t (length out) ≡ doneAnswer o t
   answer-of = sym (rescue-done o t (length out) (f .short) (f .long) (f .limit) (f .fits))
 
   output-of : rescueOutput o t out ≡ rescued o t ++ drop (length (rescued o t)) out
-  output-of = sym (output-rescued o t out (rescuedAnswer o t) (sym answer-of) refl)
+  output-of = sym (output-rescued o t out (doneAnswer o t) (sym answer-of) refl)
 
   result-of : rescuedIn o t out ≡ rescued o t
   unfolding rescuedIn
@@ -217,30 +218,44 @@ twice-of o t out again b z room =
 
 -- ---- a damaged table
 
-module _ (o : ByteOrder) (t : List ℕ) (b : Bytes t) (d : Damaged o t) where
-  -- no zero word stands behind its run: up to that word it would be well-formed
-  damaged-added : zeroAdded o t ≡ true
-  damaged-added = go (hasZero (reading o t)) refl
+-- whether a table has a well-formed one at its front: it does exactly where a zero word stands behind the run
+module _ (o : ByteOrder) (t : List ℕ) (b : Bytes t) (long : 4 ≤ length t) (short : length t ≤ tableLimit) where
+  zero-table : hasZero (reading o t) ≡ true → HasTable o t
+  zero-table z =
+      let n : length (rescued o t) ≤ tableLimit = omega (arith, length-rescued o t, zero-stands o t b long z .0) in
+      record { table = rescued o t; rest = drop (wholeRun o t .end + 4) t; well = result-well o t b long n; is = begins-result o t b long z }
+
+  table-zero : HasTable o t → hasZero (reading o t) ≡ true
+  table-zero h = rw (h .is) (whole-reads o (h .table) (h .rest) (bytes-parts (h .table) (h .rest) (rw (h .is) at b) .0) (h .well) .1)
+
+  either-of : Dec (HasTable o t)
+  either-of = go (hasZero (reading o t)) refl
+    where
+      go : (zero : Bool) → hasZero (reading o t) ≡ zero → Dec (HasTable o t)
+      go true e = yes (zero-table e)
+      go false e = no (λ h. both-ways _ (table-zero h) e)
+
+  damaged-added : (HasTable o t → ⊥) → zeroAdded o t ≡ true
+  damaged-added none = go (hasZero (reading o t)) refl
     where
       go : (zero : Bool) → hasZero (reading o t) ≡ zero → not zero ≡ true
       go false e = refl
-      go true e =
-          let n : length (rescued o t) ≤ tableLimit = omega (arith, length-rescued o t, zero-stands o t b (d .long) e .0, d .short) in
-          absurd (d .no-table (rescued o t) _ (result-well o t b (d .long) n) (begins-result o t b (d .long) e))
+      go true e = absurd (none (zero-table e))
 
-  damaged-of : (out : List ℕ) (ss : List Sect) → Longest o t ss
+  damaged-of : (out : List ℕ) (ss : List Sect) → (HasTable o t → ⊥) → Longest o t ss
       → let result = tableOf o (entryOf o t) ss in
       (length result ≤ tableLimit → length result ≤ length out → Gives o t out result (length ss) (length t + 4 - length result) true)
       × (tableLimit < length result → Refuses o t out RESULT-LONG)
       × (length result ≤ tableLimit → length out < length result → Refuses o t out OUTPUT-SHORT)
   unfolding rescued usedBytes
-  damaged-of out ss r =
+  damaged-of out ss none r =
       let result = tableOf o (entryOf o t) ss in
-      let k : Taken t = record { short = d .short; long = d .long } in
-      let one = one-run o t b (d .long) ss r in
+      let k : Taken t = record { short = short; long = long } in
+      let one = one-run o t b long ss r in
       let is : rescued o t ≡ result = ap (tableOf o (entryOf o t)) one in
-      let left : length t - usedBytes o t ≡ length t + 4 - length result = rw (is, damaged-added) (omega (arith, length-table o (entryOf o t) ss)) in
-      (gives o t out result k is (ap length one) left damaged-added, too-long o t out result k is, no-room o t out result k is)
+      let added = damaged-added none in
+      let unused : length t - usedBytes o t ≡ length t + 4 - length result = rw (is, added) (omega (arith, length-table o (entryOf o t) ss)) in
+      (gives o t out result k is (ap length one) unused added, too-long o t out result k is, no-room o t out result k is)
 
 -- ---- a table that is cut
 
@@ -257,11 +272,11 @@ cut-of o t out cut b w low within room =
     let r = well-read o t w in
     let begins = read-begins o u (omega (arith, n)) in
     let left = read-left o t cut within 4 (r .1) low in
-    let count : kept o u ≡ ss = ap (λ (r : Reading). r .sections) begins ∙ left .sections ∙ ap (λ (r : Reading). endingBy cut 4 (r .sections)) (sym (r .0)) in
+    let count : kept o u ≡ ss = ap (λ (x : Reading). x .sections) begins ∙ left .sections ∙ ap (λ (x : Reading). endingBy cut 4 (x .sections)) (sym (r .0)) in
     let is : rescued o u ≡ result = λ i. tableOf o (header-left o t cut within 0 low i) (count i) in
     let size : length result ≡ 8 + length (chunks o ss) = length-table o (entryOf o t) ss in
     let limit : length result ≤ tableLimit = omega (arith, size, ending-bytes o cut 4 (reading o t .sections), length-read o t b w, w .short) in
-    let fault : reading o u .fault ≡ TABLE-CUT = ap (λ (r : Reading). r .fault) begins ∙ left .fault in
+    let fault : reading o u .fault ≡ TABLE-CUT = ap (λ (x : Reading). x .fault) begins ∙ left .fault in
     let added : zeroAdded o u ≡ true = rw fault refl in
     let unused : length u - usedBytes o u ≡ cut + 4 - length result = rw (is, n, added) (omega (arith, size)) in
     gives o u out result (record { short = omega (arith, n, w .short); long = omega (arith, n) }) is (ap length count) unused added limit room
@@ -324,8 +339,9 @@ rescuing = record {
   over = λ o t out h. refuses o t out (λ z. omega arith) (table-long o t (length out) h);
   entry-cut = λ o t out h. refuses o t out (λ z. omega arith) (entry-cut o t (length out) (omega arith) h);
   whole = λ o w rest out b v. whole-of o w rest b v out;
+  either = either-of;
   run = run-of;
-  damaged = λ o t out ss b d. damaged-of o t b d out ss;
+  damaged = λ o t out ss b long short. damaged-of o t b long short out ss;
   holds = holds-of;
   well = well-of;
   twice = twice-of;

@@ -7,13 +7,15 @@ use mathlib.Core.Bool.{Bool, true, false, not}
 use native.Mathlib.Nat.{add-zero}
 use native.Mathlib.Omega.{arith}
 use native.Mathlib.Decide.{ℕ-discrete}
-use borrow.Author.Tests.{eq-eqb, ne-eqb, eqb-true}
+use borrow.Author.Tests.{eq-eqb, ne-eqb}
 use lib.ListN.{length, take, drop, length-append}
 use lib.Seq.{take-at}
 use Rattle.words.specs.declared.ByteOrder.{ByteOrder}
 use Rattle.words.specs.Choice.{if}
 use Rattle.words.specs.Word.{Bytes}
 use Rattle.words.specs.Header.{headerAt, headerBytes}
+use Rattle.words.specs.Refusal.{BYTES-AFTER}
+use Rattle.words.proofs.ChoiceLaws.{both-ways}
 use Rattle.words.proofs.HeaderLaws.{length-header}
 use Rattle.boot_table.specs.declared.Step.the-variants.{Section, End, Fault}
 use Rattle.boot_table.specs.Table.{entryOf, chunks, tableOf, stop, stepAt, before, readOn, reading}
@@ -86,16 +88,23 @@ module _ (o : ByteOrder) (t : List ℕ) (b : Bytes t) (long : 4 ≤ length t) wh
       ap (take (4 + length (chunks o (kept o t)))) (table-front o t b long) ∙ take-at front (drop (behind o t 4) t) (4 + length (chunks o (kept o t))) n in
       ap (_++ headerBytes o 0) (sym e)
 
+  -- of the faults, bytes after the zero word alone ends at a zero word
+  zero-fault : (n place : ℕ) → (n ≡ 0 → ⊥) → hasZero (stop n place) ≡ true → n ≡ BYTES-AFTER
+  unfolding hasZero
+  zero-fault n place some z =
+      by-cases (ℕ-discrete n BYTES-AFTER) (λ e. e) (λ other. absurd (both-ways _ z (simp (ne-eqb n 0 some, ne-eqb n BYTES-AFTER other))))
+
   -- a reading that ends at a zero word has that word behind the run
   pub zero-stands : hasZero (reading o t) ≡ true → (wholeRun o t .end + 4 ≤ length t) × (headerAt o t (wholeRun o t .end) ≡ 0)
   unfolding hasZero
   zero-stands z =
+      let r = readOn o t 4 in
       rw (run-behind o t long)
-      (by-cases (ℕ-discrete (readOn o t 4 .fault) 0)
+      (by-cases (ℕ-discrete (r .fault) 0)
       (λ f. let e = end-of o t _ (read-stops o t 4 ∙ rw (eq-eqb _ _ f) refl) in (omega arith, e .1))
       (λ f.
-      let s : stepAt o t (behind o t 4) ≡ Fault (readOn o t 4 .fault) (readOn o t 4 .place) = read-stops o t 4 ∙ rw (ne-eqb _ _ f) refl in
-      fault-of o t _ s .after (eqb-true _ _ (rw (read-begins o t long, ne-eqb _ _ f) at z))))
+      let s : stepAt o t (behind o t 4) ≡ Fault (r .fault) (r .place) = read-stops o t 4 ∙ rw (ne-eqb _ _ f) refl in
+      fault-of o t _ s .after (zero-fault (r .fault) (r .place) f (ap hasZero (sym (read-begins o t long)) ∙ z))))
 
   -- the bytes used end there, or behind that word
   pub run-used : usedTo (wholeRun o t .end) (wholeRun o t .zero) ≡ usedBytes o t

@@ -36,8 +36,8 @@ abbrev pub rescueRefused : ℕ → Rescued
 rescueRefused number = record { number = number; place = 0; length = 0; sections = 0; unused = 0; added = false }
 
 -- the answer for a table that is rescued
-abbrev pub rescuedAnswer : ByteOrder → List ℕ → Rescued
-rescuedAnswer o t = record {
+abbrev pub doneAnswer : ByteOrder → List ℕ → Rescued
+doneAnswer o t = record {
   number = 0;
   place = 0;
   length = length (rescued o t);
@@ -53,7 +53,7 @@ rescueAnswer o t room =
     (if (ltb (length t) 4) (rescueRefused TABLE-CUT)
     (if (ltb tableLimit (length (rescued o t))) (rescueRefused RESULT-LONG)
     (if (ltb room (length (rescued o t))) (rescueRefused OUTPUT-SHORT)
-    (rescuedAnswer o t))))
+    (doneAnswer o t))))
 
 -- what rescuing leaves in the output: the rescued table and the bytes past it, or what was lent
 unfoldable pub rescueOutput : ByteOrder → List ℕ → List ℕ → List ℕ

@@ -41,11 +41,12 @@ pub record Longest (o : ByteOrder) (t : List ℕ) (ss : List Sect) : Type 0 wher
   pub run : BeginsWith o t ss
   pub longest : (rs : List Sect) → BeginsWith o t rs → take (length rs) ss ≡ rs
 
--- t is within the limit, has its entry word, and is not a well-formed table with bytes behind it or none
-pub record Damaged (o : ByteOrder) (t : List ℕ) : Type 0 where
-  pub short : length t ≤ tableLimit
-  pub long : 4 ≤ length t
-  pub no-table : (w rest : List ℕ) → WellFormed o w → t ≡ w ++ rest → ⊥
+-- t is a well-formed table with bytes behind it, or with none
+pub record HasTable (o : ByteOrder) (t : List ℕ) : Type 0 where
+  pub table : List ℕ
+  pub rest : List ℕ
+  pub well : WellFormed o table
+  pub is : t ≡ table ++ rest
 
 -- ---- a table that is cut
 
@@ -97,10 +98,12 @@ pub record Rescuing : Type 0 where
   pub whole : (o : ByteOrder) (w rest out : List ℕ) → Bytes w → WellFormed o w → length (w ++ rest) ≤ tableLimit
       → (length w ≤ length out → Gives o (w ++ rest) out w (length (reading o w .sections)) (length rest) false)
       × (length out < length w → Refuses o (w ++ rest) out OUTPUT-SHORT)
+  -- whether a table is such a one can be told
+  pub either : (o : ByteOrder) (t : List ℕ) → Bytes t → 4 ≤ length t → length t ≤ tableLimit → Dec (HasTable o t)
   -- every table with its entry word has a longest run of whole sections: those that reading finds before the end or the first fault
   pub run : (o : ByteOrder) (t : List ℕ) → Bytes t → 4 ≤ length t → Longest o t (reading o t .sections)
   -- any other table gives its entry, the longest run of whole sections from its start and a zero word, which is added; or 10, or 11
-  pub damaged : (o : ByteOrder) (t out : List ℕ) (ss : List Sect) → Bytes t → Damaged o t → Longest o t ss
+  pub damaged : (o : ByteOrder) (t out : List ℕ) (ss : List Sect) → Bytes t → 4 ≤ length t → length t ≤ tableLimit → (HasTable o t → ⊥) → Longest o t ss
       → let result = tableOf o (entryOf o t) ss in
       (length result ≤ tableLimit → length result ≤ length out → Gives o t out result (length ss) (length t + 4 - length result) true)
       × (tableLimit < length result → Refuses o t out RESULT-LONG)

@@ -10,7 +10,7 @@ use Rattle.words.specs.Run.{over}
 use Rattle.words.proofs.RunLaws.{over-front}
 use Rattle.boot_table.specs.Form.{tableLimit}
 use Rattle.rescue.specs.declared.Run.{Run}
-use Rattle.rescue.specs.Rescue.{rescued, usedBytes, rescuedAnswer}
+use Rattle.rescue.specs.Rescue.{rescued, usedBytes, doneAnswer}
 use Rattle.rescue.proofs.WholeRunLaws.{Front, run-front}
 use Rattle.rescue.proofs.AnswerLaws.{table-long, entry-cut, result-long, output-short, rescue-done, output-kept, output-rescued}
 use borrow.Author.Needs.{needs}
@@ -40,14 +40,14 @@ whole-run-requires : tie.Need-whole-run-requires
 whole-run-requires c κs = search needs
 
 -- the table is within the limit and has its entry word, and the run says what the rescued table is
-record Found (o : ByteOrder) (t : List ℕ) (r : Run) : Type 0 where
+record Ready (o : ByteOrder) (t : List ℕ) (r : Run) : Type 0 where
   short : length t ≤ tableLimit
   long : 4 ≤ length t
   front : Front o t r
 
-found : (c : tie.After-struct-known) → let s = c .before .before .before .before .before .before in
-    Found (s .args .order) (s .args .table .now) (c .before .whole-run .result)
-found c =
+ready : (c : tie.After-struct-known) → let s = c .before .before .before .before .before .before in
+    Ready (s .args .order) (s .args .table .now) (c .before .whole-run .result)
+ready c =
     let k = c .before .before in
     let known = k .before .before .before in
     let long : 4 ≤ length (known .before .args .table .now) = omega (arith, k .if2 .left) in
@@ -58,7 +58,7 @@ found c =
     }
 
 add-length : tie.Need-add-length
-add-length c = let f = found c in omega (arith, f .front .within, f .short)
+add-length c = let f = ready c in omega (arith, f .front .within, f .short)
 
 refused-requires-3 : tie.Need-refused-requires-3
 refused-requires-3 c κs = search needs
@@ -67,7 +67,7 @@ returns-3 : tie.Need-returns-3
 returns-3 c =
     let k = c .before .before in
     let s = k .before .before .before .before .before .before in
-    let f = found k in
+    let f = ready k in
     let e = result-long (s .args .order) (s .args .table .now) (length (s .args .output .now)) (f .short) (f .long)
     (omega (arith, f .front .size, c .before .if3 .taken)) in
     (c .refused3 .ensures ∙ e, output-kept _ _ _ _ e (λ z. omega arith))
@@ -79,26 +79,26 @@ returns-4 : tie.Need-returns-4
 returns-4 c =
     let k = c .before .before .before in
     let s = k .before .before .before .before .before .before in
-    let f = found k in
+    let f = ready k in
     let e = output-short (s .args .order) (s .args .table .now) (length (s .args .output .now)) (f .short) (f .long)
     (omega (arith, f .front .size, c .before .before .if3 .left)) (omega (arith, f .front .size, c .before .if4 .taken)) in
     (c .refused4 .ensures ∙ e, output-kept _ _ _ _ e (λ z. omega arith))
 
 slice-aggregate-write-rescued : tie.Need-slice-aggregate-write-rescued
-slice-aggregate-write-rescued c = sym (length-take-le _ _ (found (c .before .before .before) .front .within))
+slice-aggregate-write-rescued c = sym (length-take-le _ _ (ready (c .before .before .before) .front .within))
 
 write-rescued-requires : tie.Need-write-rescued-requires
 write-rescued-requires c κs =
     let k = c .before .before .before .before in
     let t = k .before .before .before .before .before .before .args .table .now in
-    omega (arith, length-take-le (k .before .whole-run .result .end) t (found k .front .within), c .before .before .if4 .left)
+    omega (arith, length-take-le (k .before .whole-run .result .end) t (ready k .front .within), c .before .before .if4 .left)
 
 used-requires : tie.Need-used-requires
 used-requires c κs = search needs
 
 sub-unused : tie.Need-sub-unused
 sub-unused c =
-    let f = found (c .before .before .before .before .before .before .before .before) in
+    let f = ready (c .before .before .before .before .before .before .before .before) in
     omega (arith, c .used .ensures, f .front .used, f .front .enough)
 
 same-length : tie.Need-same-length
@@ -113,14 +113,14 @@ returns-5 c =
     let o = s .args .order in
     let t = s .args .table .now in
     let out = s .args .output .now in
-    let f = found k .front in
+    let f = ready k .front in
     let n : length t - c .before .used .result ≡ length t - usedBytes o t = ap (λ (n : ℕ). length t - n) (c .before .used .ensures ∙ f .used) in
-    let e = rescue-done o t (length out) (found k .short) (found k .long) (omega (arith, f .size, room .before .if3 .left)) (omega (arith, f .size, room .if4 .left)) in (
+    let e = rescue-done o t (length out) (ready k .short) (ready k .long) (omega (arith, f .size, room .before .if3 .left)) (omega (arith, f .size, room .if4 .left)) in (
       (λ i. record { number = 0; place = 0; length = sym (f .size) i; sections = f .count i; unused = n i; added = f .added i }) ∙ e,
       w .write-rescued .ensures
           ∙ ap (over out 0) (sym (f .is))
           ∙ over-front out (rescued o t)
-          ∙ output-rescued o t out (rescuedAnswer o t) e refl,
+          ∙ output-rescued o t out (doneAnswer o t) e refl,
     )
 
 pub rescue-spec : {M : Type 1} → statement M

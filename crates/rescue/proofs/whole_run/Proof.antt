@@ -6,11 +6,9 @@ use native.Mathlib.Omega.{arith}
 use borrow.Author.Needs.{needs}
 use borrow.Author.Tests.{ne-eqb}
 use lib.ListN.{length}
-use lib.Dec.{eqb}
 use Rattle.words.specs.declared.ByteOrder.{ByteOrder}
-use Rattle.words.specs.Refusal.{BYTES-AFTER}
 use Rattle.boot_table.specs.declared.Step.the-variants.{Section}
-use Rattle.boot_table.specs.Table.{stop, stepAt, readOn}
+use Rattle.boot_table.specs.Table.{stepAt, readOn}
 use Rattle.boot_table.proofs.StepLaws.{section-of, fault-number, end-left}
 use Rattle.rescue.specs.Rescue.{hasZero}
 use Rattle.rescue.specs.WholeRun.{runOn, wholeRun}
@@ -48,17 +46,13 @@ returns c =
     sym (c .before .before .before .loop .inv .run
     ∙ run-end _ _ _ _ (sym (s .ensures) ∙ end-left (s .result) (c .before .match .keys2) (c .match2 .keys2)))
 
--- a fault is no end: its number alone says whether it stands at a zero word
-fault-zero : (n place : ℕ) → (n ≡ 0 → ⊥) → hasZero (stop n place) ≡ eqb n BYTES-AFTER
-unfolding hasZero
-fault-zero n place some = rw (ne-eqb n 0 some) refl
-
+-- a fault has a number, which says whether it stands at a zero word
 returns-2 : tie.Need-returns-2 Inv-loop μ-loop
+unfolding hasZero
 returns-2 c =
     let s = c .before .before .before .before in
     let e = sym (s .step-at .ensures) ∙ c .before .step2 .given .1 in
-    let z = fault-zero _ _ (fault-number _ _ _ e) in
-    sym (s .before .loop .inv .run ∙ run-fault _ _ _ _ e ∙ (λ i. record { sections = s .before .loop .sections; end = s .before .loop .at; zero = z i }))
+    rw (s .before .loop .inv .run, run-fault _ _ _ _ e, ne-eqb _ _ (fault-number _ _ _ e)) refl
 
 -- a turn that finds a section
 step-is : (c : tie.After-known-told Inv-loop μ-loop) → let l = c .before .before .before .before in let s = c .before .step .given .0 in
