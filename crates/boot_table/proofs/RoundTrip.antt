@@ -10,7 +10,7 @@ use lib.Seq.{take-all, take-at, drop-at, drop-drop}
 use Rattle.words.specs.declared.ByteOrder.{ByteOrder}
 use Rattle.words.specs.Word.{Bytes, padCount}
 use Rattle.words.specs.Header.{headerAt, headerBytes}
-use Rattle.words.proofs.HeaderLaws.{header-seam, header-bytes, length-header}
+use Rattle.words.proofs.HeaderLaws.{header-seam, header-bytes, header-between, length-header}
 use Rattle.boot_table.specs.Table.{entryOf, Sect, Reading, chunk, chunks, tableOf, sectionAt, before, readOn, reading}
 use Rattle.boot_table.specs.Form.{WellFormed}
 use Rattle.boot_table.specs.Valid.{Valid, All, none, also}
@@ -80,8 +80,7 @@ module _ (o : ByteOrder) (p q : List ℕ) (s : Sect) (v : Valid s) where
   address-at : headerAt o (p ++ (chunk o s ++ q)) (length p + 4) ≡ s .address
   address-at =
       let l : length (p ++ headerBytes o (length (s .body))) ≡ length p + 4 = simp (length-append, length-header) in
-      let e = header-seam o (p ++ headerBytes o (length (s .body))) (headerBytes o (s .address) ++ (s .body ++ s .pads ++ q)) in
-      let f = header-bytes o (s .address) (s .body ++ s .pads ++ q) (omega (arith, v .some, v .top)) in
+      let e = header-between o (p ++ headerBytes o (length (s .body))) (s .body ++ s .pads ++ q) (s .address) (omega (arith, v .some, v .top)) in
       cc (cut-address)
 
   body-at : take (length (s .body)) (drop (length p + 8) (p ++ (chunk o s ++ q))) ≡ s .body
@@ -138,10 +137,10 @@ read-run o t p q at (also {s = s} {ss = ss} v vs) e l =
 read-chunks : (o : ByteOrder) (t p : List ℕ) (at : ℕ) {ss : List Sect} → All Valid ss → t ≡ p ++ (chunks o ss ++ headerBytes o 0) → at ≡ length p
     → readOn o t at ≡ record { sections = ss; fault = 0; place = 0 }
 read-chunks o t p at {ss} v e l =
-    let f : t ≡ (p ++ chunks o ss) ++ headerBytes o 0 = e ∙ simp append-assoc in
+    let f : t ≡ (p ++ chunks o ss) ++ (headerBytes o 0 ++ []) = e ∙ simp (append-assoc, append-nil) in
     let n : at + length (chunks o ss) ≡ length (p ++ chunks o ss) = simp length-append (omega arith) in
     let zero : headerAt o t (at + length (chunks o ss)) ≡ 0 =
-    rw (f, n) (header-seam o (p ++ chunks o ss) (headerBytes o 0) ∙ rw append-nil at (header-bytes o 0 [] (omega arith))) in
+    rw (f, n) (header-between o (p ++ chunks o ss) [] 0 (omega arith)) in
     let end = end-step o t (at + length (chunks o ss)) (rw f (simp (length-append, length-header) (omega arith))) zero in
     read-run o t p (headerBytes o 0) at v e l ∙ rw (read-end o t (at + length (chunks o ss)) end, append-nil) refl
 

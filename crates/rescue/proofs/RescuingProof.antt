@@ -15,7 +15,7 @@ use Rattle.words.specs.Header.{headerAt, headerBytes}
 use Rattle.words.specs.Refusal.{TABLE-CUT, RESULT-LONG, OUTPUT-SHORT}
 use Rattle.words.proofs.ChoiceLaws.{both-ways}
 use Rattle.words.proofs.WordLaws.{bytes-take, bytes-append, bytes-parts}
-use Rattle.words.proofs.HeaderLaws.{length-header, header-lt, header-seam, header-bytes, written-bytes}
+use Rattle.words.proofs.HeaderLaws.{length-header, header-lt, header-bytes, header-between, written-bytes}
 use Rattle.boot_table.specs.Table.{Sect, Reading, entryOf, chunks, tableOf, readOn, reading}
 use Rattle.boot_table.specs.Form.{tableLimit, WellFormed}
 use Rattle.boot_table.specs.Valid.{Valid, All}
@@ -81,7 +81,7 @@ module _ (o : ByteOrder) (t out : List ℕ) (f : Fits o t (length out)) where
 -- reading on ends at a zero word, whatever stands behind it
 module _ (o : ByteOrder) (t p rest : List ℕ) (at : ℕ) (e : t ≡ p ++ (headerBytes o 0 ++ rest)) (l : at ≡ length p) where
   zero-at : headerAt o t at ≡ 0
-  zero-at = rw (e, l) (header-seam o p (headerBytes o 0 ++ rest) ∙ header-bytes o 0 rest (omega arith))
+  zero-at = rw (e, l) (header-between o p rest 0 (omega arith))
 
   zero-length : length t ≡ at + 4 + length rest
   zero-length = rw e (simp (length-append, length-header) (omega arith))

@@ -73,3 +73,7 @@ pub written-bytes : (o : ByteOrder) (n : ℕ) → Bytes (headerBytes o n)
 unfolding headerBytes wordBytes
 written-bytes HighFirst n = four-bytes _ _ _ _ (omega arith) (omega arith) (omega arith) (omega arith)
 written-bytes LowFirst n = four-bytes _ _ _ _ (omega arith) (omega arith) (omega arith) (omega arith)
+
+-- a word that was written between p and q is read back
+pub header-between : (o : ByteOrder) (p q : List ℕ) (n : ℕ) → n < 2 ^ 32 → headerAt o (p ++ (headerBytes o n ++ q)) (length p) ≡ n
+header-between o p q n h = header-seam o p (headerBytes o n ++ q) ∙ header-bytes o n q h

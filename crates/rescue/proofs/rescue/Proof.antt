@@ -85,7 +85,10 @@ returns-4 c =
     (c .refused4 .ensures ∙ e, output-kept _ _ _ _ e (λ z. omega arith))
 
 slice-aggregate-write-rescued : tie.Need-slice-aggregate-write-rescued
-slice-aggregate-write-rescued c = sym (length-take-le _ _ (ready (c .before .before .before) .front .within))
+slice-aggregate-write-rescued c =
+    let k = c .before .before .before in
+    let t = k .before .before .before .before .before .before .args .table .now in
+    sym (length-take-le _ t (omega (arith, ready k .front .within)))
 
 write-rescued-requires : tie.Need-write-rescued-requires
 write-rescued-requires c κs =
