@@ -479,7 +479,7 @@ pub struct Section {
 
 impl Section {
     /// A section with data and pads of any contents.
-    fn of_size(numbers: &mut Numbers, address: u32, size: usize) -> Self {
+    pub fn of_size(numbers: &mut Numbers, address: u32, size: usize) -> Self {
         Section {
             address,
             data: numbers.bytes(size),

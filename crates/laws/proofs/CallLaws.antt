@@ -1,4 +1,4 @@
--- What the functions that make the calls of demand 3 ensure, from what `join` and `load` ensure of each call.
+-- What the functions that make the calls of demand 3 and request 11 ensure, from what `join` and `load` ensure of each call.
 use Prim.Native.Nat.{ℕ, _≤_}
 use mathlib.Core.Path.{_≡_, refl, sym, ap}
 use mathlib.Core.List.{List}
@@ -11,15 +11,17 @@ use lib.Seq.{length-take-le}
 use Rattle.words.specs.declared.ByteOrder.{ByteOrder}
 use Rattle.words.specs.Word.{Bytes}
 use Rattle.words.proofs.ChoiceLaws.{if-cases}
-use Rattle.boot_table.specs.Table.{Sect}
-use Rattle.boot_table.specs.Form.{tableLimit, formOf}
+use Rattle.boot_table.specs.Table.{Sect, reading}
+use Rattle.boot_table.specs.Form.{tableLimit, formOf, WellFormed}
 use Rattle.loader.specs.declared.Answer.{Answer}
 use Rattle.loader.specs.Load.{loadAnswer, loadMemory}
 use Rattle.joiner.specs.declared.Joined.{Joined}
 use Rattle.joiner.specs.Join.{joinedLength, joinAnswer, joinOutput}
-use Rattle.laws.specs.Calls.{joinIn, turnAnswers, threeAnswers, swapOf, swapAnswers}
+use Rattle.laws.specs.Calls.{joinIn, turnAnswers, threeAnswers, swapOf, rearrangedAnswers, bothWays}
 use Rattle.laws.specs.Demand3.{Joinable, Fitting, Joinable3, TwoSections, InTurn, Associative, Swapped}
+use Rattle.laws.specs.Rearranging.{RearrangedTable, LoadsAlike, JoinsAlike}
 use Rattle.laws.proofs.Theorem.{demand-3}
+use Rattle.laws.proofs.RearrangingProof.{any-order}
 
 -- the join, loaded, against the two tables in turn
 pub turn-calls : (o : ByteOrder) (m a b out whole turn : List ℕ) → Bytes a → Bytes b
@@ -58,19 +60,46 @@ three-calls o a b c ab left bc right p q s x l y r ab′ left′ bc′ right′ 
     rw (eright, er, ebc, ey, eleft, el, eab, ex)
     (refl, (refl, (refl, (refl, (refl, demand-3 .three-tables o a b c ab left bc right p q s)))))
 
--- a table and the one with its two sections swapped
-pub swap-calls : (o : ByteOrder) (m t u mem other : List ℕ) → Bytes t
+-- a table and the one with its sections rearranged
+pub rearranged-calls : (o : ByteOrder) (m t u mem other : List ℕ) → Bytes t
     → (a b : Answer) (mem′ other′ : List ℕ)
     → a ≡ loadAnswer o m t (length mem) → mem′ ≡ loadMemory o m t mem
     → b ≡ loadAnswer o m u (length other) → other′ ≡ loadMemory o m u other
-    → (record { original = a; swapped = b } ≡ swapAnswers o m t u mem other)
+    → (record { original = a; rearranged = b } ≡ rearrangedAnswers o m t u mem other)
     × ((mem′ ≡ loadMemory o m t mem)
     × ((other′ ≡ loadMemory o m u other)
-    × ((x y : Sect) → TwoSections o t m mem x y → u ≡ swapOf o t x y → mem ≡ other
-    → Swapped x y (record { original = a; swapped = b }) mem′ other′)))
-swap-calls o m t u mem other p a b mem′ other′ ea eo eb et =
-    rw (et, eb, eo, ea)
-    (refl, (refl, (refl, λ x y sides is same. rw (← same, is) (demand-3 .two-swapped o t m mem x y p sides))))
+    × (((x y : Sect) → TwoSections o t m mem x y → u ≡ swapOf o t x y → mem ≡ other
+    → Swapped x y (record { original = a; rearranged = b }) mem′ other′)
+    × (WellFormed o t → RearrangedTable o t u → mem ≡ other
+    → LoadsAlike (reading o t .sections) (record { original = a; rearranged = b }) mem′ other′))))
+rearranged-calls o m t u mem other p a b mem′ other′ ea eo eb et = rw (et, eb, eo, ea) (refl, (refl, (refl, (two, any))))
+  where
+    two : (x y : Sect) → TwoSections o t m mem x y → u ≡ swapOf o t x y → mem ≡ other
+        → Swapped x y (rearrangedAnswers o m t u mem other) (loadMemory o m t mem) (loadMemory o m u other)
+    two x y sides is same = rw (← same, is) (demand-3 .two-swapped o t m mem x y p sides)
+
+    any : WellFormed o t → RearrangedTable o t u → mem ≡ other
+        → LoadsAlike (reading o t .sections) (rearrangedAnswers o m t u mem other) (loadMemory o m t mem) (loadMemory o m u other)
+    any form is same = rw (← same) (any-order .loads o t u m mem form is)
+
+-- two tables joined both ways, and both joins loaded
+pub both-calls : (o : ByteOrder) (m a b ab ba mem other : List ℕ) → Bytes a → Bytes b
+    → (x y : Joined) (ab′ ba′ : List ℕ) (f g : Answer) (mem′ other′ : List ℕ)
+    → x ≡ joinAnswer o a b (length ab) → ab′ ≡ joinOutput o a b ab
+    → y ≡ joinAnswer o b a (length ba) → ba′ ≡ joinOutput o b a ba
+    → f ≡ loadAnswer o m (take (x .length) ab′) (length mem) → mem′ ≡ loadMemory o m (take (x .length) ab′) mem
+    → g ≡ loadAnswer o m (take (y .length) ba′) (length other) → other′ ≡ loadMemory o m (take (y .length) ba′) other
+    → (record { ab = x; ba = y; «ab_loaded» = f; «ba_loaded» = g } ≡ bothWays o m a b ab ba mem other)
+    × ((ab′ ≡ joinOutput o a b ab)
+    × ((ba′ ≡ joinOutput o b a ba)
+    × ((mem′ ≡ loadMemory o m (joinIn o a b ab) mem)
+    × ((other′ ≡ loadMemory o m (joinIn o b a ba) other)
+    × (Joinable o a b ab → Joinable o b a ba → mem ≡ other
+    → JoinsAlike o m a b ab ba (record { ab = x; ba = y; «ab_loaded» = f; «ba_loaded» = g }) ab′ ba′ mem′ other′)))))
+unfolding joinIn
+both-calls o m a b ab ba mem other p q x y ab′ ba′ f g mem′ other′ ex eab ey eba ef em eg eo =
+    rw (eo, eg, em, ef, eba, ey, eab, ex)
+    (refl, (refl, (refl, (refl, (refl, λ sides turned same. rw (← same) (any-order .joins o a b ab ba m mem p q sides turned))))))
 
 -- the length that a join reports is within the output
 join-within : (o : ByteOrder) (a b : List ℕ) (room : ℕ) → joinAnswer o a b room .length ≤ room

@@ -23,7 +23,7 @@ use Rattle.laws.specs.Demand3.{IsAccepted, Joinable, Joinable3, IsJoin, 
 
 module _ (o : ByteOrder) (a b out : List ℕ) (p : Bytes a) (q : Bytes b) (j : Joinable o a b out) where
   -- what the join call answers
-  good : joinAnswer o a b (length out)
+  pub in-answer : joinAnswer o a b (length out)
       ≡ record {
         number = 0;
         place = 0;
@@ -32,25 +32,25 @@ module _ (o : ByteOrder) (a b out : List ℕ) (p : Bytes a) (q : Bytes b) (j : J
         sections = length (reading o a .sections) + length (reading o b .sections);
       }
   unfolding joinedLength
-  good = join-accepts o a b (length out) (j .first) (j .second) (j .fits) (j .room)
+  in-answer = join-accepts o a b (length out) (j .first) (j .second) (j .fits) (j .room)
 
   number-is : joinAnswer o a b (length out) .number ≡ 0
-  number-is = ap (λ (r : Joined). r .number) good
+  number-is = ap (λ (r : Joined). r .number) in-answer
 
   -- its output's first bytes are the join
   in-is : joinIn o a b out ≡ joined o a b
   unfolding joinIn
-  in-is = rw good (join-front o a b out p q number-is)
+  in-is = rw in-answer (join-front o a b out p q number-is)
 
   pub is-join : IsJoin o a b out (joinAnswer o a b (length out)) (joinOutput o a b out)
   unfolding joinedLength joined joinIn
-  is-join = record { answer = good; bytes = in-is; past = rw good (join-rest o a b out number-is p q) }
+  is-join = record { answer = in-answer; bytes = in-is; past = rw in-answer (join-rest o a b out number-is p q) }
 
   -- they are a well-formed table of bytes
   in-bytes : Bytes (joinIn o a b out)
   in-bytes = rw in-is (bytes-joined o a b p q (j .first) (j .second))
 
-  in-form : WellFormed o (joinIn o a b out)
+  pub in-form : WellFormed o (joinIn o a b out)
   unfolding joinedLength
   in-form = rw in-is (well-joined o a b p q (j .first) (j .second) (j .fits))
 
@@ -58,12 +58,12 @@ module _ (o : ByteOrder) (a b out : List ℕ) (p : Bytes a) (q : Bytes b) (j : J
   unfolding joinedLength
   in-length = ap length in-is ∙ length-joined o a b p q (j .first) (j .second)
 
-  in-reading : reading o (joinIn o a b out) .sections ≡ reading o a .sections ++ reading o b .sections
+  pub in-reading : reading o (joinIn o a b out) .sections ≡ reading o a .sections ++ reading o b .sections
   in-reading =
       ap (λ (t : List ℕ). reading o t .sections) in-is
       ∙ ap (λ (r : Reading). r .sections) (reading-joined o a b p q (j .first) (j .second))
 
-  in-entry : entryOf o (joinIn o a b out) ≡ entryOf o b
+  pub in-entry : entryOf o (joinIn o a b out) ≡ entryOf o b
   in-entry = ap (entryOf o) in-is ∙ entry-joined o a b q
 
   -- loaded, against A and then B; no sound map and no memory of its size is asked for, since without them every load is refused
@@ -146,9 +146,9 @@ module _ (o : ByteOrder) (a b c ab left bc right : List ℕ) (p : Bytes a) (q : 
 
   same-answer : joinAnswer o (joinIn o a b ab) c (length left) ≡ joinAnswer o a (joinIn o b c bc) (length right)
   same-answer =
-      good o (joinIn o a b ab) c left bytes-ab r side-left
+      in-answer o (joinIn o a b ab) c left bytes-ab r side-left
       ∙ ap₂ (λ (n k : ℕ). record { number = 0; place = 0; which = 0; length = n; sections = k }) same-length same-count
-      ∙ sym (good o a (joinIn o b c bc) right p bytes-bc side-right)
+      ∙ sym (in-answer o a (joinIn o b c bc) right p bytes-bc side-right)
 
   pub associative : Associative o a b c ab left bc right (threeAnswers o a b c ab left bc right)
       (joinOutput o a b ab) (joinOutput o (joinIn o a b ab) c left) (joinOutput o b c bc) (joinOutput o a (joinIn o b c bc) right)

@@ -1,5 +1,7 @@
+pub mod RearrangedLaws
 pub mod JoinProof
 pub mod SwapProof
+pub mod RearrangingProof
 pub mod Theorem
 pub mod CallLaws
 pub mod OrderProof

@@ -205,6 +205,36 @@ closedPQ =
     0x00 ∷ 0x00 ∷ 0x00 ∷ 0x01 ∷ 0x00 ∷ 0x80 ∷ 0x00 ∷ 0x04 ∷ 0xB7 ∷ 0x00 ∷ 0x00 ∷ 0x00 ∷
     0x00 ∷ 0x00 ∷ 0x00 ∷ 0x01 ∷ 0x00 ∷ 0x80 ∷ 0x00 ∷ 0x10 ∷ 0xC1 ∷ 0x00 ∷ 0x00 ∷ 0x00 ∷ 0x00 ∷ 0x00 ∷ 0x00 ∷ 0x00 ∷ []
 
+-- R, which touches P's section; and sections as they stand in a table: P's, R's, two bytes at 0x00800000 that touch P's from below, and the same two at 0x00800010
+abbrev pub tableR : List ℕ
+tableR =
+    0x00 ∷ 0x80 ∷ 0x00 ∷ 0x05 ∷ 0x00 ∷ 0x00 ∷ 0x00 ∷ 0x01 ∷ 0x00 ∷ 0x80 ∷ 0x00 ∷ 0x05 ∷ 0xB7 ∷ 0x00 ∷ 0x00 ∷ 0x00 ∷ 0x00 ∷ 0x00 ∷ 0x00 ∷ 0x00 ∷ []
+
+abbrev pub sectionP : List ℕ
+sectionP = take 12 (drop 4 tableP)
+
+abbrev pub sectionR : List ℕ
+sectionR = take 12 (drop 4 tableR)
+
+abbrev pub sectionC : List ℕ
+sectionC = 0x00 ∷ 0x00 ∷ 0x00 ∷ 0x02 ∷ 0x00 ∷ 0x80 ∷ 0x00 ∷ 0x00 ∷ 0xC1 ∷ 0xC2 ∷ 0x00 ∷ 0x00 ∷ []
+
+abbrev pub sectionClosed : List ℕ
+sectionClosed = 0x00 ∷ 0x00 ∷ 0x00 ∷ 0x02 ∷ 0x00 ∷ 0x80 ∷ 0x00 ∷ 0x10 ∷ 0xC1 ∷ 0xC2 ∷ 0x00 ∷ 0x00 ∷ []
+
+-- the table of P's entry and three sections
+abbrev pub ordered : List ℕ → List ℕ → List ℕ → List ℕ
+ordered x y z = take 4 tableP ++ x ++ y ++ z ++ replicate 4 0x00
+
+-- the memory after the first three were loaded, and after P and R
+abbrev pub memoryCPR : List ℕ
+memoryCPR =
+    0xC1 ∷ 0xC2 ∷ 0xA1 ∷ 0xA2 ∷ 0xA3 ∷ 0xB7 ∷ 0x16 ∷ 0x17 ∷ 0x18 ∷ 0x19 ∷ 0x1A ∷ 0x1B ∷ 0x1C ∷ 0x1D ∷ 0x1E ∷ 0x1F ∷ []
+
+abbrev pub memoryPR : List ℕ
+memoryPR =
+    0x10 ∷ 0x11 ∷ 0xA1 ∷ 0xA2 ∷ 0xA3 ∷ 0xB7 ∷ 0x16 ∷ 0x17 ∷ 0x18 ∷ 0x19 ∷ 0x1A ∷ 0x1B ∷ 0x1C ∷ 0x1D ∷ 0x1E ∷ 0x1F ∷ []
+
 -- P and Q low first: their entry, size and address words with the low byte first
 abbrev pub lowP : List ℕ
 lowP =
@@ -296,7 +326,7 @@ bothMasks =
 
 -- ---- the cards
 
--- the twelve cards of document 01, card 6 as request 2 and card 12 as request 7 of document 02 have them; for request 8 P and Q low first, and a word of four different bytes in each order; for request 10 maps with kind 3; for request 1 tables that are written from lists; for request 4 what stands at an address; and for request 12 tables that are rescued
+-- the twelve cards of document 01, card 6 as request 2 and card 12 as request 7 of document 02 have them; for request 8 P and Q low first, and a word of four different bytes in each order; for request 10 maps with kind 3; for request 1 tables that are written from lists; for request 4 what stands at an address; for request 12 tables that are rescued; and for request 11 tables whose sections are rearranged, and joins both ways
 abbrev pub cards : List Card
 cards =
     -- 1: P under M
@@ -483,4 +513,24 @@ cards =
     Rescue HighFirst shortP (replicate 20 0xEE) (saved 20 1 3 true) tableP ∷
     Rescue HighFirst shortP (replicate 19 0xEE) (unsaved 11) (replicate 19 0xEE) ∷
     Rescue HighFirst tableP (replicate 19 0xEE) (unsaved 11) (replicate 19 0xEE) ∷
+    -- in any order: three sections that touch and share no address, in each of the six orders, and in two of them where M takes one write
+    Load HighFirst mapM (ordered sectionP sectionR sectionC) memory (accept 0x00800000 true 3 6) memoryCPR ∷
+    Load HighFirst mapM (ordered sectionP sectionC sectionR) memory (accept 0x00800000 true 3 6) memoryCPR ∷
+    Load HighFirst mapM (ordered sectionR sectionP sectionC) memory (accept 0x00800000 true 3 6) memoryCPR ∷
+    Load HighFirst mapM (ordered sectionR sectionC sectionP) memory (accept 0x00800000 true 3 6) memoryCPR ∷
+    Load HighFirst mapM (ordered sectionC sectionP sectionR) memory (accept 0x00800000 true 3 6) memoryCPR ∷
+    Load HighFirst mapM (ordered sectionC sectionR sectionP) memory (accept 0x00800000 true 3 6) memoryCPR ∷
+    Load HighFirst mapOnce (ordered sectionP sectionR sectionC) memory (accept 0x00800000 true 3 6) memoryCPR ∷
+    Load HighFirst mapOnce (ordered sectionC sectionR sectionP) memory (accept 0x00800000 true 3 6) memoryCPR ∷
+    -- not in any order: the sections of Q joined with P sorted by address, which has the answer of card 3 and leaves the memory of card 2; and Q joined with P where M takes one write
+    Load HighFirst mapM (take 4 tableP ++ drop 4 joinPQ) memory (accept 0x00800000 true 2 4) memoryPQ ∷
+    Load HighFirst mapOnce joinQP memory (refuse 29 16 0) memory ∷
+    -- a section that is not open, last and first
+    Load HighFirst mapM (ordered sectionP sectionR sectionClosed) memory (refuse 9 28 0x00800010) memory ∷
+    Load HighFirst mapM (ordered sectionClosed sectionP sectionR) memory (refuse 9 4 0x00800010) memory ∷
+    -- P joined with R, and R with P, and these loaded: the same memory and counts, and each with the entry of its second table
+    Join HighFirst tableP tableR output (success 32 2) (take 4 tableR ++ sectionP ++ sectionR ++ replicate 4 0x00 ++ replicate 4 0xEE) ∷
+    Join HighFirst tableR tableP output (success 32 2) (take 4 tableP ++ sectionR ++ sectionP ++ replicate 4 0x00 ++ replicate 4 0xEE) ∷
+    Load HighFirst mapM (take 4 tableR ++ sectionP ++ sectionR ++ replicate 4 0x00) memory (accept 0x00800005 true 2 4) memoryPR ∷
+    Load HighFirst mapM (take 4 tableP ++ sectionR ++ sectionP ++ replicate 4 0x00) memory (accept 0x00800000 true 2 4) memoryPR ∷
     []

@@ -18,8 +18,8 @@ use Rattle.joiner.specs.declared.Joined.{Joined}
 use Rattle.joiner.specs.Join.{joinOutput}
 use Rattle.laws.specs.declared.TurnAnswers.{TurnAnswers}
 use Rattle.laws.specs.declared.ThreeAnswers.{ThreeAnswers}
-use Rattle.laws.specs.declared.SwapAnswers.{SwapAnswers}
-use Rattle.laws.specs.Calls.{joinIn, turnAnswers, threeAnswers, swapOf, swapAnswers}
+use Rattle.laws.specs.declared.RearrangedAnswers.{RearrangedAnswers}
+use Rattle.laws.specs.Calls.{joinIn, turnAnswers, threeAnswers, swapOf, rearrangedAnswers}
 
 -- ---- the demand's terms
 
@@ -114,11 +114,11 @@ pub record Associative (o : ByteOrder) (a b c ab left bc right : List ℕ) (r : 
   pub answer : r .left ≡ r .right
 
 -- a table of the sections x and y, and the one with the two swapped, were loaded from the same bytes of memory
-pub record Swapped (x y : Sect) (r : SwapAnswers) (original′ swapped′ : List ℕ) : Type 0 where
+pub record Swapped (x y : Sect) (r : RearrangedAnswers) (original′ swapped′ : List ℕ) : Type 0 where
   -- swapping gives an accepted table
-  pub accepted : IsAccepted (r .swapped)
+  pub accepted : IsAccepted (r .rearranged)
   -- with the same answer
-  pub answer : r .swapped ≡ r .original
+  pub answer : r .rearranged ≡ r .original
   -- and it leaves the same memory exactly when the two carry equal bytes at every address they share
   pub memory : (swapped′ ≡ original′) ↔ (Agree x y)
 
@@ -135,4 +135,4 @@ pub record Demand3 : Type 0 where
       (joinOutput o a b ab) (joinOutput o (joinIn o a b ab) c left) (joinOutput o b c bc) (joinOutput o a (joinIn o b c bc) right)
   -- any byte order, any accepted table of just two sections
   pub two-swapped : (o : ByteOrder) (t m mem : List ℕ) (x y : Sect) → Bytes t → TwoSections o t m mem x y
-      → Swapped x y (swapAnswers o m t (swapOf o t x y) mem mem) (loadMemory o m t mem) (loadMemory o m (swapOf o t x y) mem)
+      → Swapped x y (rearrangedAnswers o m t (swapOf o t x y) mem mem) (loadMemory o m t mem) (loadMemory o m (swapOf o t x y) mem)

@@ -1,10 +1,12 @@
-// Functions that make the calls of demand 3. What they ensure follows from the contracts of `join` and `load`, and from demand 3.
+// Functions that make the calls of demand 3 and request 11. What they ensure follows from the contracts of `join` and `load`, from demand 3 and from request 11.
 ghost use mathlib.Core.Path.{_≡_};
-ghost use Rattle.boot_table.specs.Table.{Sect};
+ghost use Rattle.boot_table.specs.Table.{Sect, reading};
+ghost use Rattle.boot_table.specs.Form.{WellFormed};
 ghost use Rattle.loader.specs.Load.{loadMemory};
 ghost use Rattle.joiner.specs.Join.{joinOutput};
-ghost use Rattle.laws.specs.Calls.{joinIn, turnAnswers, threeAnswers, swapOf, swapAnswers};
+ghost use Rattle.laws.specs.Calls.{joinIn, turnAnswers, threeAnswers, swapOf, rearrangedAnswers, bothWays};
 ghost use Rattle.laws.specs.Demand3.{Joinable, Fitting, Joinable3, TwoSections, InTurn, Associative, Swapped};
+ghost use Rattle.laws.specs.Rearranging.{RearrangedTable, LoadsAlike, JoinsAlike};
 use joiner::Joined;
 use joiner::join;
 use loader::Answer;
@@ -27,10 +29,18 @@ pub struct ThreeAnswers {
     pub right: Joined,
 }
 
-// The answers of loading a table, and the table with its two sections swapped.
-pub struct SwapAnswers {
+// The answers of loading a table, and the table with its sections rearranged.
+pub struct RearrangedAnswers {
     pub original: Answer,
-    pub swapped: Answer,
+    pub rearranged: Answer,
+}
+
+// The answers of joining two tables both ways, and of loading each join.
+pub struct BothWays {
+    pub ab: Joined,
+    pub ba: Joined,
+    pub ab_loaded: Answer,
+    pub ba_loaded: Answer,
 }
 
 // Joins two tables and loads the join into one memory, and loads the two in turn into another.
@@ -108,28 +118,71 @@ pub fn join_three(
     }
 }
 
-// Loads a table into one memory, and into another the table with its two sections swapped.
-pub fn load_swapped(
+// Loads a table into one memory, and into another the table with its sections rearranged.
+pub fn load_rearranged(
     map: &[u8],
     original: &[u8],
-    swapped: &[u8],
+    rearranged: &[u8],
     order: ByteOrder,
     original_memory: &mut [u8],
-    swapped_memory: &mut [u8],
-) -> SwapAnswers
-    ensures { λ r. ⌜ r ≡ swapAnswers order (now (map .entry)) (now (original .entry)) (now (swapped .entry))
-        (now («original_memory» .entry)) (now («swapped_memory» .entry)) ⌝ }
+    rearranged_memory: &mut [u8],
+) -> RearrangedAnswers
+    ensures { λ r. ⌜ r ≡ rearrangedAnswers order (now (map .entry)) (now (original .entry)) (now (rearranged .entry))
+        (now («original_memory» .entry)) (now («rearranged_memory» .entry)) ⌝ }
     ensures { λ _. ⌜ now («original_memory» .exit) ≡ loadMemory order (now (map .entry)) (now (original .entry)) (now («original_memory» .entry)) ⌝ }
-    ensures { λ _. ⌜ now («swapped_memory» .exit) ≡ loadMemory order (now (map .entry)) (now (swapped .entry)) (now («swapped_memory» .entry)) ⌝ }
+    ensures { λ _. ⌜ now («rearranged_memory» .exit) ≡ loadMemory order (now (map .entry)) (now (rearranged .entry)) (now («rearranged_memory» .entry)) ⌝ }
     ensures { λ r. ⌜ ((x y : Sect) → TwoSections order (now (original .entry)) (now (map .entry)) (now («original_memory» .entry)) x y
-        → now (swapped .entry) ≡ swapOf order (now (original .entry)) x y
-        → now («original_memory» .entry) ≡ now («swapped_memory» .entry)
-        → Swapped x y r (now («original_memory» .exit)) (now («swapped_memory» .exit))) ⌝ }
+        → now (rearranged .entry) ≡ swapOf order (now (original .entry)) x y
+        → now («original_memory» .entry) ≡ now («rearranged_memory» .entry)
+        → Swapped x y r (now («original_memory» .exit)) (now («rearranged_memory» .exit))) ⌝ }
+    ensures { λ r. ⌜ (WellFormed order (now (original .entry))
+        → RearrangedTable order (now (original .entry)) (now (rearranged .entry))
+        → now («original_memory» .entry) ≡ now («rearranged_memory» .entry)
+        → LoadsAlike (reading order (now (original .entry)) .sections) r (now («original_memory» .exit)) (now («rearranged_memory» .exit))) ⌝ }
 {
     let loaded_original = load(map, original, order, original_memory);
-    let loaded_swapped = load(map, swapped, order, swapped_memory);
-    SwapAnswers {
+    let loaded_rearranged = load(map, rearranged, order, rearranged_memory);
+    RearrangedAnswers {
         original: loaded_original,
-        swapped: loaded_swapped,
+        rearranged: loaded_rearranged,
+    }
+}
+
+// Joins two tables, and joins them the other way round, and loads each join into a memory of its own.
+pub fn join_both_ways(
+    map: &[u8],
+    first: &[u8],
+    second: &[u8],
+    order: ByteOrder,
+    ab: &mut [u8],
+    ba: &mut [u8],
+    ab_memory: &mut [u8],
+    ba_memory: &mut [u8],
+) -> BothWays
+    ensures { λ r. ⌜ r ≡ bothWays order (now (map .entry)) (now (first .entry)) (now (second .entry)) (now (ab .entry)) (now (ba .entry))
+        (now («ab_memory» .entry)) (now («ba_memory» .entry)) ⌝ }
+    ensures { λ _. ⌜ now (ab .exit) ≡ joinOutput order (now (first .entry)) (now (second .entry)) (now (ab .entry)) ⌝ }
+    ensures { λ _. ⌜ now (ba .exit) ≡ joinOutput order (now (second .entry)) (now (first .entry)) (now (ba .entry)) ⌝ }
+    ensures { λ _. ⌜ now («ab_memory» .exit)
+        ≡ loadMemory order (now (map .entry)) (joinIn order (now (first .entry)) (now (second .entry)) (now (ab .entry))) (now («ab_memory» .entry)) ⌝ }
+    ensures { λ _. ⌜ now («ba_memory» .exit)
+        ≡ loadMemory order (now (map .entry)) (joinIn order (now (second .entry)) (now (first .entry)) (now (ba .entry))) (now («ba_memory» .entry)) ⌝ }
+    ensures { λ r. ⌜ (Joinable order (now (first .entry)) (now (second .entry)) (now (ab .entry))
+        → Joinable order (now (second .entry)) (now (first .entry)) (now (ba .entry))
+        → now («ab_memory» .entry) ≡ now («ba_memory» .entry)
+        → JoinsAlike order (now (map .entry)) (now (first .entry)) (now (second .entry)) (now (ab .entry)) (now (ba .entry)) r
+        (now (ab .exit)) (now (ba .exit)) (now («ab_memory» .exit)) (now («ba_memory» .exit))) ⌝ }
+{
+    let joined_ab = join(first, second, order, ab);
+    let joined_ba = join(second, first, order, ba);
+    let n = joined_ab.length;
+    let loaded_ab = load(map, &ab[..n], order, ab_memory);
+    let k = joined_ba.length;
+    let loaded_ba = load(map, &ba[..k], order, ba_memory);
+    BothWays {
+        ab: joined_ab,
+        ba: joined_ba,
+        ab_loaded: loaded_ab,
+        ba_loaded: loaded_ba,
     }
 }

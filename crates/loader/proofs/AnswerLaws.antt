@@ -1,6 +1,6 @@
 -- What judging and loading answer, by the tests that lead to each answer.
 use mathlib.Core.Path.{_≡_, refl, sym, _∙_, ap}
-use mathlib.Core.Logic.{by-cases}
+use mathlib.Core.Logic.{_⊎_, inl, inr, by-cases}
 use mathlib.Core.List.{List, []}
 use mathlib.Core.Bool.{Bool}
 use Prim.Native.Nat.{ℕ}
@@ -9,7 +9,7 @@ use native.Mathlib.Omega.{arith}
 use borrow.Author.Tests.{eq-eqb, ne-eqb}
 use lib.ListN.{length}
 use Rattle.words.specs.declared.ByteOrder.{ByteOrder}
-use Rattle.words.specs.Refusal.{MEMORY-LENGTH}
+use Rattle.words.specs.Refusal.{MEMORY-LENGTH, STORED-TWICE}
 use Rattle.region_map.specs.Map.{mapAnswer, memorySize, isOpen}
 use Rattle.region_map.specs.declared.MapAnswer.{MapAnswer}
 use Rattle.region_map.proofs.FaultLaws.{answer-sound, sound-answer}
@@ -25,7 +25,7 @@ use Rattle.one_write.proofs.OnceLaws.{nowhere-iff}
 use Rattle.loader.specs.declared.Answer.{Answer}
 use Rattle.loader.specs.Store.{storeAll}
 use Rattle.loader.specs.Load.{refused, accepted, onRepeat, onceAnswer, mapRule, formFirst, openAnswer, tableAnswer, judgeAnswer, loadAnswer, loadMemory, Opens}
-use Rattle.loader.proofs.RuleLaws.{opens-rule, rule-opens, rule-refused}
+use Rattle.loader.proofs.RuleLaws.{same-number, opens-rule, rule-opens, rule-refused}
 
 -- ---- the form goes first, by its number
 
@@ -117,7 +117,7 @@ fine-is o m t sections bytes entry opens e p q =
 -- ---- acceptance
 
 -- a table that keeps the map rule is accepted exactly where it stores no address of kind 3 twice
-once-only : (o : ByteOrder) (m t : List ℕ) → onceAnswer o m t .number ≡ 0 → StoresOnce m (reading o t .sections)
+pub once-only : (o : ByteOrder) (m t : List ℕ) → onceAnswer o m t .number ≡ 0 → StoresOnce m (reading o t .sections)
 unfolding onceAnswer firstRepeat
 once-only o m t z = nowhere-iff m 4 (reading o t .sections) .0 (go (repeatFrom m 4 [] (reading o t .sections)) z)
   where
@@ -125,9 +125,18 @@ once-only o m t z = nowhere-iff m 4 (reading o t .sections) .0 (go (repeatFrom m
     go Nowhere e = refl
     go (At at) e = absurd (omega arith)
 
-once-if : (o : ByteOrder) (m t : List ℕ) → StoresOnce m (reading o t .sections) → onceAnswer o m t ≡ accepted o m t
+pub once-if : (o : ByteOrder) (m t : List ℕ) → StoresOnce m (reading o t .sections) → onceAnswer o m t ≡ accepted o m t
 unfolding onceAnswer firstRepeat
 once-if o m t k = ap (onRepeat (accepted o m t)) (nowhere-iff m 4 (reading o t .sections) .1 k)
+
+-- and else refused with 29
+pub once-number : (o : ByteOrder) (m t : List ℕ) → (onceAnswer o m t .number ≡ 0) ⊎ (onceAnswer o m t .number ≡ STORED-TWICE)
+unfolding onceAnswer accepted
+once-number o m t = go (firstRepeat o m t)
+  where
+    go : (r : Repeat) → (onRepeat (accepted o m t) r .number ≡ 0) ⊎ (onRepeat (accepted o m t) r .number ≡ STORED-TWICE)
+    go Nowhere = inl refl
+    go (At at) = inr refl
 
 -- under a sound map a table is accepted exactly where it is well-formed, keeps the map rule, and stores no address of kind 3 twice
 pub table-only : (o : ByteOrder) (m t : List ℕ) → tableAnswer o m t .number ≡ 0
@@ -135,10 +144,10 @@ pub table-only : (o : ByteOrder) (m t : List ℕ) → tableAnswer o m t .number 
 table-only o m t z =
     by-cases (ℕ-discrete (formOf o t .number) 0)
     (λ f.
-    let rule = ap (λ (r : Answer). r .number) (form-judged o m t (formOf o t) refl f) ∙ z in
+    let rule = same-number (form-judged o m t (formOf o t) refl f) ∙ z in
     let opens = rule-opens m (onceAnswer o m t) 4 (reading o t .sections) rule in
-    (form-well o t f, opens, once-only o m t (ap (λ (r : Answer). r .number) (sym (opens-rule m (onceAnswer o m t) 4 opens)) ∙ rule)))
-    (λ n. absurd (n (ap (λ (r : Answer). r .number) (form-refused o m t (formOf o t) refl n) ∙ z)))
+    (form-well o t f, opens, once-only o m t (same-number (sym (opens-rule m (onceAnswer o m t) 4 opens)) ∙ rule)))
+    (λ n. absurd (n (same-number (form-refused o m t (formOf o t) refl n) ∙ z)))
 
 pub table-if : (o : ByteOrder) (m t : List ℕ) → WellFormed o t → All (Opens m) (reading o t .sections) → StoresOnce m (reading o t .sections)
     → tableAnswer o m t ≡ accepted o m t
@@ -160,7 +169,7 @@ module _ (o : ByteOrder) (m t : List ℕ) (r : Answer) (e : r ≡ openAnswer o m
       let rule = open-judged o m t (formOf o t) refl f in
       sym rule
       ∙ rule-refused m 4 (reading o t .sections) (accepted o m t) (onceAnswer o m t) refl
-      (λ z. n (ap (λ (a : Answer). a .number) (e ∙ sym rule) ∙ z))
+      (λ z. n (same-number (e ∙ sym rule) ∙ z))
       ∙ form-judged o m t (formOf o t) refl f)
       (λ f. sym (open-refused o m t (formOf o t) refl f) ∙ form-refused o m t (formOf o t) refl f)
 
@@ -169,7 +178,7 @@ module _ (o : ByteOrder) (m t : List ℕ) (r : Answer) (e : r ≡ openAnswer o m
     pub once-formed : WellFormed o t
     once-formed =
         by-cases (ℕ-discrete (formOf o t .number) 0) (form-well o t)
-        (λ n. absurd (n (ap (λ (a : Answer). a .number) (open-refused o m t (formOf o t) refl n ∙ sym e) ∙ z)))
+        (λ n. absurd (n (same-number (open-refused o m t (formOf o t) refl n ∙ sym e) ∙ z)))
 
     form-zero : formOf o t .number ≡ 0
     form-zero = ap (λ (f : Form). f .number) (well-form o t once-formed)
@@ -177,7 +186,7 @@ module _ (o : ByteOrder) (m t : List ℕ) (r : Answer) (e : r ≡ openAnswer o m
     opens : All (Opens m) (reading o t .sections)
     opens =
         rule-opens m (accepted o m t) 4 (reading o t .sections)
-        (ap (λ (a : Answer). a .number) (open-judged o m t (formOf o t) refl form-zero ∙ sym e) ∙ z)
+        (same-number (open-judged o m t (formOf o t) refl form-zero ∙ sym e) ∙ z)
 
     -- and its sections decide
     pub once-judged : onRepeat r (firstRepeat o m t) ≡ tableAnswer o m t

@@ -28,6 +28,7 @@ use Rattle.loader.specs.declared.Answer.{Answer}
 use Rattle.loader.specs.Store.{storeAll}
 use Rattle.loader.specs.Load.{refused, onClosed, accepted, onRepeat, onceAnswer, mapRule, formFirst, openAnswer, tableAnswer, mapFirst, judgeAnswer, loadAnswer, loadMemory, Accepted}
 use Rattle.loader.proofs.StoreLaws.{length-storeAll, storeAll-at, storeAll-miss}
+use Rattle.loader.proofs.RuleLaws.{same-number}
 use Rattle.loader.proofs.AnswerLaws.{map-refused, map-judged, load-refused, load-sized, load-judged, memory-kept, memory-stored, table-only, table-if}
 
 -- ---- acceptance
@@ -38,10 +39,10 @@ module _ (o : ByteOrder) (m t : List ℕ) (room : ℕ) where
       by-cases (ℕ-discrete (mapAnswer m .number) 0)
       (λ s. by-cases (ℕ-discrete room (memorySize m))
       (λ e.
-      let q = table-only o m t (ap (λ (r : Answer). r .number) (load-judged o m t room (mapAnswer m) refl s e) ∙ z) in
+      let q = table-only o m t (same-number (load-judged o m t room (mapAnswer m) refl s e) ∙ z) in
       record { sound = answer-sound m s; size = e; form = q .0; opens = q .1; once = q .2 })
-      (λ n. absurd (three (ap (λ (r : Answer). r .number) (load-sized o m t room (mapAnswer m) refl s n) ∙ z))))
-      (λ n. absurd (n (ap (λ (r : Answer). r .number) (load-refused o m t room (mapAnswer m) refl n) ∙ z)))
+      (λ n. absurd (three (same-number (load-sized o m t room (mapAnswer m) refl s n) ∙ z))))
+      (λ n. absurd (n (same-number (load-refused o m t room (mapAnswer m) refl n) ∙ z)))
     where
       three : _≡_ {A = ℕ} 3 0 → ⊥
       three e = omega arith
@@ -54,7 +55,7 @@ module _ (o : ByteOrder) (m t : List ℕ) (room : ℕ) where
   -- a table is accepted exactly when the map is sound, memory has the map's size, and the table is well-formed, keeps the map rule, and stores no address of kind 3 twice
   pub accepted-iff : (loadAnswer o m t room .number ≡ 0) ↔ (Accepted o m t room)
   unfolding accepted
-  accepted-iff = (accept-only, λ a. ap (λ (r : Answer). r .number) (accepted-answer a))
+  accepted-iff = (accept-only, λ a. same-number (accepted-answer a))
 
 -- ---- maps without a record of kind 3
 

@@ -1,11 +1,13 @@
 -- Laws of the map rule: what a table's sections come to under a map.
 use mathlib.Core.Path.{_≡_, refl, sym, _∙_, ap}
+use mathlib.Core.Logic.{_⊎_, inl, inr, ⊎-elim}
 use mathlib.Core.List.{List, [], _∷_}
 use mathlib.Core.Option.{Option, none, some}
 use Prim.Native.Nat.{ℕ, _+_, _-_, _≤_}
 use native.Mathlib.Omega.{arith}
 use lib.ListN.{length}
 use Rattle.words.specs.declared.ByteOrder.{ByteOrder}
+use Rattle.words.specs.Refusal.{NOT-OPEN}
 use Rattle.region_map.specs.Map.{closedFrom}
 use Rattle.region_map.proofs.OpenLaws.{open-each, each-open}
 use Rattle.boot_table.specs.declared.Step.the-variants.{Section, End}
@@ -20,6 +22,10 @@ use Rattle.loader.specs.declared.judging.Walk.{Walk}
 use Rattle.loader.specs.Judging.{Open, Counted, Passed}
 use Rattle.loader.specs.declared.Answer.{Answer}
 use Rattle.loader.specs.Load.{notOpen, onClosed, accepted, mapRule, Opens}
+
+-- equal answers have one number
+pub same-number : {r s : Answer} → r ≡ s → r .number ≡ s .number
+same-number e = ap (λ (a : Answer). a .number) e
 
 -- no address of a section is closed exactly where all that it covers are open
 pub nowhere-opens : (m : List ℕ) (s : Sect) → closedFrom m (length (s .body)) (s .address) ≡ none → Opens m s
@@ -48,15 +54,21 @@ module _ (m : List ℕ) (fine : Answer) where
   opens-rule at all-none = refl
   opens-rule at (also {s = s} {ss = ss} o os) = rule-open at s ss (opens-nowhere m s o) ∙ opens-rule (nextOf at (length (s .body))) os
 
-  -- and no others
-  pub rule-opens : (at : ℕ) (ss : List Sect) → mapRule m fine at ss .number ≡ 0 → All (Opens m) ss
-  rule-opens at [] z = all-none
-  rule-opens at (s ∷ ss) z = go (closedFrom m (length (s .body)) (s .address)) refl (rule-opens (nextOf at (length (s .body))) ss)
+  -- where one is not open, the number is 9
+  pub rule-number : (at : ℕ) (ss : List Sect) → (mapRule m fine at ss .number ≡ NOT-OPEN) ⊎ (All (Opens m) ss)
+  rule-number at [] = inr all-none
+  rule-number at (s ∷ ss) = go (closedFrom m (length (s .body)) (s .address)) refl (rule-number (nextOf at (length (s .body))) ss)
     where
       go : (c : Option ℕ) → closedFrom m (length (s .body)) (s .address) ≡ c
-          → (mapRule m fine (nextOf at (length (s .body))) ss .number ≡ 0 → All (Opens m) ss) → All (Opens m) (s ∷ ss)
-      go none e ih = also (nowhere-opens m s e) (ih (ap (λ (r : Answer). r .number) (sym (rule-open at s ss e)) ∙ z))
-      go (some a) e ih = absurd (omega (arith, ap (λ (r : Answer). r .number) (sym (rule-closed at a s ss e)) ∙ z))
+          → (mapRule m fine (nextOf at (length (s .body))) ss .number ≡ NOT-OPEN) ⊎ (All (Opens m) ss)
+          → (mapRule m fine at (s ∷ ss) .number ≡ NOT-OPEN) ⊎ (All (Opens m) (s ∷ ss))
+      go none e (inl p) = inl (same-number (rule-open at s ss e) ∙ p)
+      go none e (inr k) = inr (also (nowhere-opens m s e) k)
+      go (some a) e ih = inl (same-number (rule-closed at a s ss e))
+
+  -- so sections that are not refused are open
+  pub rule-opens : (at : ℕ) (ss : List Sect) → mapRule m fine at ss .number ≡ 0 → All (Opens m) ss
+  rule-opens at ss z = ⊎-elim (λ p. absurd (omega arith)) (λ k. k) (rule-number at ss)
 
 -- what the map rule refuses does not depend on the answer that it would leave
 pub rule-refused : (m : List ℕ) (at : ℕ) (ss : List Sect) (fine other : Answer) → fine .number ≡ 0 → (mapRule m fine at ss .number ≡ 0 → ⊥)

@@ -161,13 +161,6 @@ module _ (m : List ℕ) where
         (λ g. let k = f .1 a e in omega (arith, times-append xs ys a)),
   )
 
-  -- two neighbouring sections may change places
-  pub once-exchange : (xs ys : List Sect) (x y : Sect) → StoresOnce m (xs ++ (x ∷ y ∷ ys)) → StoresOnce m (xs ++ (y ∷ x ∷ ys))
-  unfolding times
-  once-exchange xs ys x y f a e =
-      let k = f a e in
-      omega (arith, times-append xs (x ∷ y ∷ ys) a, times-append xs (y ∷ x ∷ ys) a)
-
   -- where no address takes one write nothing is stored again
   pub plain-nowhere : ((a : ℕ) → once m a ≡ false) → (at : ℕ) (ss : List Sect) → repeatFrom m at [] ss ≡ Nowhere
   plain-nowhere f at ss = nowhere-iff at ss .1 (λ a e. absurd (both-ways (once m a) e (f a)))

@@ -6,6 +6,7 @@ use Rattle.region_map.proofs.FaultLaws.{answer-sound}
 use lib.ListN.{length}
 use Rattle.loader.specs.declared.Answer.{Answer}
 use Rattle.loader.specs.Load.{onRepeat, tableAnswer, loadAnswer}
+use Rattle.loader.proofs.RuleLaws.{same-number}
 use Rattle.loader.proofs.AnswerLaws.{answer-bytes, load-refused, load-sized, load-judged, memory-kept, memory-stored, once-refused, once-formed, once-judged}
 use borrow.Author.Needs.{needs}
 use Rattle.loader.proofs.load.Statement.{statement}
@@ -76,7 +77,7 @@ store-sections-requires c κs =
     let j = k .before .before .before .before .before .judge-map in
     let z = k .before .before .before .if1 .left in (
       (answer-sound _ (ap (λ (r : MapAnswer). r .number) (sym (j .ensures)) ∙ z), k .before .if2 .left ∙ answer-bytes _ _ (j .ensures) z),
-      ap (λ (r : Answer). r .number) (sym (fine (c .before))) ∙ c .before .before .before .before .if3 .left,
+      same-number (sym (fine (c .before))) ∙ c .before .before .before .before .if3 .left,
     )
 
 enum-known-offset : tie.Need-enum-known-offset
@@ -100,7 +101,7 @@ returns-5 c =
     let f = c .before .before .before .before in
     let k = f .before .before .before in
     let e = judged k (c .stored-twice .result) (c .stored-twice .ensures ∙ ap (onRepeat (k .judge-open .result)) (sym (c .before .before .offset .given .1)) ∙ found f) in
-    (e, memory-kept _ _ _ _ _ e (λ r. omega (arith, ap (λ (r : Answer). r .number) (c .stored-twice .ensures))))
+    (e, memory-kept _ _ _ _ _ e (λ r. omega (arith, same-number (c .stored-twice .ensures))))
 
 pub load-spec : {M : Type 1} → statement M
 load-spec =

@@ -1,8 +1,8 @@
--- `laws::load_swapped`: demand 3, of what the two calls ensure.
-use Rattle.laws.proofs.CallLaws.{swap-calls}
+-- `laws::load_rearranged`: demand 3 and request 11, of what the two calls ensure.
+use Rattle.laws.proofs.CallLaws.{rearranged-calls}
 use borrow.Author.Needs.{needs}
-use Rattle.laws.proofs.load_swapped.Statement.{statement}
-use Rattle.laws.proofs.load_swapped.Tie as tie
+use Rattle.laws.proofs.load_rearranged.Statement.{statement}
+use Rattle.laws.proofs.load_rearranged.Tie as tie
 
 load-requires : tie.Need-load-requires
 load-requires c κs = search needs
@@ -22,10 +22,10 @@ returns c =
     let q = c .before .before .load2 in
     let known = c .before .before .before .before .before .before .before .before .before .before .before in
     let a = known .before .before .args in
-    swap-calls (a .order) (a .map .now) (a .original .now) (a .swapped .now) (a .original-memory .now) (a .swapped-memory .now)
+    rearranged-calls (a .order) (a .map .now) (a .original .now) (a .rearranged .now) (a .original-memory .now) (a .rearranged-memory .now)
     (λ i. known .shared-slice-known2 .given i .fits)
     (p .result) (q .result) (p .last .1 .1 .1 .0) (q .last .1 .1 .1 .0) (p .ensures .0) (p .ensures .1) (q .ensures .0) (q .ensures .1)
 
-pub load-swapped-spec : {M : Type 1} → statement M
-load-swapped-spec =
+pub load-rearranged-spec : {M : Type 1} → statement M
+load-rearranged-spec =
     tie.close (tie.spec load-requires load-requires-2 same-length same-length-2 returns)
