@@ -511,6 +511,43 @@ pub fn table_of(entry: u32, sections: &[Section], order: ByteOrder) -> Vec<u8> {
     padded_table(entry, &list, order)
 }
 
+/// A well-formed table and what it was made of.
+pub struct Made {
+    pub entry: u32,
+    pub list: Vec<Section>,
+    pub order: ByteOrder,
+    pub table: Vec<u8>,
+}
+
+impl Made {
+    pub fn of(entry: u32, list: Vec<Section>, order: ByteOrder) -> Made {
+        let table = table_of(entry, &list, order);
+        Made {
+            entry,
+            list,
+            order,
+            table,
+        }
+    }
+
+    /// The table of the first sections alone.
+    pub fn front(&self, sections: usize) -> Vec<u8> {
+        table_of(self.entry, &self.list[..sections], self.order)
+    }
+
+    /// The offset of each section and the offset past it, as the reference reads them.
+    pub fn places(&self) -> Vec<(usize, usize)> {
+        let read = reference::read_table(&self.table, self.order).expect("a well-formed table");
+        let sections = read.sections.iter();
+        sections
+            .map(|section| {
+                let whole = 8 + section.data.len() + section.pads.len();
+                (section.offset, section.offset + whole)
+            })
+            .collect()
+    }
+}
+
 /// The offset of each size word in a table of sections.
 fn offsets(sections: &[Section]) -> Vec<usize> {
     let mut list = Vec::new();

@@ -12,7 +12,7 @@
 //! with memory of another length has 3.
 
 use second::calls;
-use second::cases::{self, Numbers, Regions, Section};
+use second::cases::{self, Made, Numbers, Regions, Section};
 use second::reference::{self, ByteOrder, JoinAnswer, Kind, LoadAnswer, Record, TABLE_LIMIT, TOP};
 use std::collections::HashSet;
 use std::ops::Range;
@@ -130,6 +130,12 @@ impl Board {
 
     fn is_open(&self, address: u64) -> bool {
         reference::is_open(&self.records, address)
+    }
+
+    /// Whether every address of every section of a table is open.
+    fn opens(&self, made: &Made) -> bool {
+        let mut all = made.list.iter().flat_map(addresses);
+        all.all(|address| self.is_open(address))
     }
 
     /// The place in memory of an address that is open.
@@ -304,61 +310,29 @@ fn without_sharing(
 
 // Tables and their rearrangements.
 
-/// A well-formed table and what it was made of.
-struct Made {
-    entry: u32,
-    list: Vec<Section>,
-    order: ByteOrder,
-    table: Vec<u8>,
+/// A table of sections with a generated entry.
+fn with_entry(numbers: &mut Numbers, board: &Board, list: Vec<Section>, order: ByteOrder) -> Made {
+    let entry = cases::entry(numbers, &board.regions);
+    Made::of(entry, list, order)
 }
 
-impl Made {
-    fn of(entry: u32, list: Vec<Section>, order: ByteOrder) -> Made {
-        let table = cases::table_of(entry, &list, order);
-        Made {
-            entry,
-            list,
-            order,
-            table,
-        }
+/// The table with its sections in another arrangement. They are moved whole, as they stand
+/// in it; the entry word stays.
+fn rearranged(made: &Made, arrangement: &[usize]) -> Vec<u8> {
+    let places = made.places();
+    let mut bytes = made.table[..4].to_vec();
+    for index in arrangement {
+        let (start, end) = places[*index];
+        bytes.extend(&made.table[start..end]);
     }
+    bytes.extend([0; 4]);
+    assert_eq!(bytes.len(), made.table.len());
+    bytes
+}
 
-    /// A table of sections with a generated entry.
-    fn with_entry(
-        numbers: &mut Numbers,
-        board: &Board,
-        list: Vec<Section>,
-        order: ByteOrder,
-    ) -> Made {
-        let entry = cases::entry(numbers, &board.regions);
-        Made::of(entry, list, order)
-    }
-
-    /// The table with its sections in another arrangement. They are moved whole, as they
-    /// stand in it; the entry word stays.
-    fn rearranged(&self, arrangement: &[usize]) -> Vec<u8> {
-        let read = reference::read_table(&self.table, self.order).expect("a well-formed table");
-        let mut bytes = self.table[..4].to_vec();
-        for index in arrangement {
-            let section = &read.sections[*index];
-            let whole = 8 + section.data.len() + section.pads.len();
-            bytes.extend(&self.table[section.offset..][..whole]);
-        }
-        bytes.extend([0; 4]);
-        assert_eq!(bytes.len(), self.table.len());
-        bytes
-    }
-
-    /// Whether every address of every section is open.
-    fn is_open(&self, board: &Board) -> bool {
-        let mut all = self.list.iter().flat_map(addresses);
-        all.all(|address| board.is_open(address))
-    }
-
-    /// The sum of the section sizes.
-    fn bytes(&self) -> usize {
-        self.list.iter().map(|section| section.data.len()).sum()
-    }
+/// The sum of the section sizes.
+fn bytes(made: &Made) -> usize {
+    made.list.iter().map(|section| section.data.len()).sum()
 }
 
 /// The answer for the sections of some tables in one table that is accepted, with the entry
@@ -369,7 +343,7 @@ fn accepted(board: &Board, tables: &[&Made]) -> LoadAnswer {
         entry: entry.into(),
         entry_open: u64::from(board.is_open(entry.into())),
         sections: tables.iter().map(|made| made.list.len() as u64).sum(),
-        bytes: tables.iter().map(|made| made.bytes() as u64).sum(),
+        bytes: tables.iter().map(|made| bytes(made) as u64).sum(),
         ..Default::default()
     }
 }
@@ -508,11 +482,11 @@ impl Seen {
 /// reference says. Sections that share no address repeat none.
 fn any_order(board: &Board, made: &Made, arrangements: &[Vec<usize>], seen: &mut Seen) {
     let loaded = board.loaded(&made.table, made.order);
-    let open = made.is_open(board);
+    let open = board.opens(made);
     assert_eq!(loaded.answer.number, if open { 0 } else { 9 });
     let mut others = Vec::new();
     for arrangement in arrangements {
-        let table = made.rearranged(arrangement);
+        let table = rearranged(made, arrangement);
         let other = board.loaded(&table, made.order);
         if open {
             assert_eq!(other, loaded, "{:02x?} and {table:02x?}", made.table);
@@ -547,7 +521,7 @@ fn every_rearrangement_of_up_to_five_sections() {
         let wanted = numbers.pick(&[0, 1, 2, 3, 3, 4, 4, 5, 5]);
         let strays = numbers.pick(&[0, 0, 0, 0, 1, 2]);
         let list = without_sharing(&mut numbers, &board, wanted, strays);
-        let made = Made::with_entry(&mut numbers, &board, list, order);
+        let made = with_entry(&mut numbers, &board, list, order);
         let count = made.list.len();
         any_order(&board, &made, &all[count], &mut seen[order as usize]);
         counts[order as usize][count] += 1;
@@ -581,7 +555,7 @@ fn random_rearrangements_of_up_to_a_hundred_sections() {
             continue;
         }
         let some = some_arrangements(&mut numbers, &list);
-        let made = Made::with_entry(&mut numbers, &board, list, order);
+        let made = with_entry(&mut numbers, &board, list, order);
         any_order(&board, &made, &some, &mut seen[order as usize]);
     }
     println!("up to a hundred sections: {seen:?}");
@@ -630,7 +604,7 @@ fn thousands_of_sections() {
                 ..Default::default()
             };
             for arrangement in some_arrangements(&mut numbers, &made.list) {
-                let loaded = board.loaded(&made.rearranged(&arrangement), order);
+                let loaded = board.loaded(&rearranged(&made, &arrangement), order);
                 assert_eq!(loaded.answer, expected);
                 assert!(loaded.memory == data);
             }
@@ -678,7 +652,7 @@ fn under_refused_maps_and_memory_of_another_length() {
             continue;
         }
         let some = some_arrangements(&mut numbers, &list);
-        let made = Made::with_entry(&mut numbers, &board, list, order);
+        let made = with_entry(&mut numbers, &board, list, order);
         let sound = board.loaded(&made.table, order);
 
         // A map with a fault, or memory of another length.
@@ -710,7 +684,7 @@ fn under_refused_maps_and_memory_of_another_length() {
         ));
         let as_made: Vec<usize> = (0..made.list.len()).collect();
         for arrangement in [&[as_made][..], &some].concat() {
-            let table = made.rearranged(&arrangement);
+            let table = rearranged(&made, &arrangement);
             let mut memory = before.clone();
             let answer = calls::load(&map, &table, order, &mut memory);
             assert_eq!(answer, expected, "{map:02x?}, {table:02x?}");
@@ -773,7 +747,7 @@ fn judged_under_maps_whose_memory_is_too_large_to_lend() {
         let judged = calls::judge(&map, &made.table, order);
         assert_eq!(judged, reference::judge(&map, &made.table, order));
         for arrangement in &all[made.list.len()] {
-            let table = made.rearranged(arrangement);
+            let table = rearranged(&made, arrangement);
             let other = calls::judge(&map, &table, order);
             if judged.number == 0 {
                 assert_eq!(other, judged, "{map:02x?}, {table:02x?}");
@@ -879,9 +853,9 @@ fn joins_the_other_way_round() {
             parts[part].push(section);
         }
         numbers.shuffle(&mut parts);
-        let tables = parts.map(|list| Made::with_entry(&mut numbers, &board, list, order));
+        let tables = parts.map(|list| with_entry(&mut numbers, &board, list, order));
         let [a, b] = &tables;
-        let [open_a, open_b] = [a, b].map(|table| table.is_open(&board));
+        let [open_a, open_b] = [a, b].map(|table| board.opens(table));
         let number = if open_a && open_b { 0 } else { 9 };
         let [one, other] = both_ways(&mut numbers, &board, [a, b], number);
         let seen = &mut seen[order as usize];
@@ -1069,11 +1043,11 @@ fn where_sections_share_an_address() {
             .iter()
             .any(|(i, _)| reference::takes_one_write(&board.records, first + *i as u64));
 
-        let made = Made::with_entry(&mut numbers, &board, list, order);
+        let made = with_entry(&mut numbers, &board, list, order);
         let loaded = board.loaded(&made.table, order);
         let count = made.list.len();
         for arrangement in &all[count] {
-            let table = made.rearranged(arrangement);
+            let table = rearranged(&made, arrangement);
             let other = board.loaded(&table, order);
             let [at_one, at_two] =
                 [one, two].map(|index| arrangement.iter().position(|place| *place == index));
@@ -1209,7 +1183,7 @@ fn what_is_no_rearrangement_is_told_apart() {
         if list.len() < 2 {
             continue;
         }
-        let made = Made::with_entry(&mut numbers, &board, list, order);
+        let made = with_entry(&mut numbers, &board, list, order);
         // Memory starts with other bytes at every place.
         let after = board.loaded(&made.table, order).memory;
         board.before = after.iter().map(|byte| !byte).collect();
@@ -1391,15 +1365,15 @@ fn rearrangements_where_sections_share_at_random() {
         if share_none(&list) {
             continue;
         }
-        let made = Made::with_entry(&mut numbers, &board, list, order);
+        let made = with_entry(&mut numbers, &board, list, order);
         let twice = board.stores_again(&made.list);
-        let number = expected_number(made.is_open(&board), twice);
+        let number = expected_number(board.opens(&made), twice);
         let loaded = board.loaded(&made.table, order);
         let (mut memory, mut places, mut before) = (false, false, false);
         for arrangement in &all[count] {
             // The number is the same, and of an accepted table the whole answer. What memory
             // holds then, and a refusal's place and address, the reference says.
-            let table = made.rearranged(arrangement);
+            let table = rearranged(&made, arrangement);
             let other = board.loaded(&table, order);
             assert_eq!(other.answer.number, number, "{table:02x?}");
             if number == 0 {
@@ -1464,7 +1438,7 @@ fn joins_of_tables_whose_own_sections_share() {
         let tables = parts.map(|part| {
             let count = numbers.pick(&[1, 2, 3, 3, 4]);
             let list = sharing(&mut numbers, &part, count);
-            Made::with_entry(&mut numbers, &board, list, order)
+            with_entry(&mut numbers, &board, list, order)
         });
         let [a, b] = &tables;
         let one_empty = a.list.is_empty() || b.list.is_empty();
@@ -1477,7 +1451,7 @@ fn joins_of_tables_whose_own_sections_share() {
         });
         assert!(of_a.is_disjoint(&of_b));
 
-        let open = [a, b].map(|table| table.is_open(&board));
+        let open = [a, b].map(|table| board.opens(table));
         let twice = [a, b].map(|table| board.stores_again(&table.list));
         let any_twice = twice != [false; 2];
         let number = expected_number(open == [true; 2], any_twice);
@@ -1488,7 +1462,7 @@ fn joins_of_tables_whose_own_sections_share() {
             0 => {
                 let matters = |table: &&Made| {
                     let backwards: Vec<usize> = (0..table.list.len()).rev().collect();
-                    let other = board.loaded(&table.rearranged(&backwards), order);
+                    let other = board.loaded(&rearranged(table, &backwards), order);
                     other.memory != board.loaded(&table.table, order).memory
                 };
                 seen.accepted[[a, b].into_iter().filter(matters).count()] += 1;

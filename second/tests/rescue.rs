@@ -7,48 +7,11 @@
 //! not made of any, from what the library's judge says of each of their fronts.
 
 use second::calls;
-use second::cases::{self, header_word, turn_word, Numbers, Section};
+use second::cases::{self, header_word, turn_word, Made, Numbers, Section};
 use second::reference::{self, ByteOrder, RescueAnswer, TOP};
 
 /// Generated cases of each law.
 const CASES: u64 = 60_000;
-
-/// A well-formed table and what it was made of.
-struct Made {
-    entry: u32,
-    list: Vec<Section>,
-    order: ByteOrder,
-    table: Vec<u8>,
-}
-
-impl Made {
-    fn of(entry: u32, list: Vec<Section>, order: ByteOrder) -> Made {
-        let table = cases::table_of(entry, &list, order);
-        Made {
-            entry,
-            list,
-            order,
-            table,
-        }
-    }
-
-    /// The table of the first sections alone.
-    fn front(&self, sections: usize) -> Vec<u8> {
-        cases::table_of(self.entry, &self.list[..sections], self.order)
-    }
-
-    /// The offset of each section and the offset past it, as the reference reads them.
-    fn places(&self) -> Vec<(usize, usize)> {
-        let read = reference::read_table(&self.table, self.order).expect("a well-formed table");
-        let sections = read.sections.iter();
-        sections
-            .map(|section| {
-                let whole = 8 + section.data.len() + section.pads.len();
-                (section.offset, section.offset + whole)
-            })
-            .collect()
-    }
-}
 
 /// Lists made by hand: no section; P's, and P's and Q's; each count of pads; sections
 /// that end at the top; data and pads that look like header words and zero words; more

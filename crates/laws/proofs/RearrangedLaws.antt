@@ -162,7 +162,7 @@ times-to-all (s ∷ ss) few =
 pub none-twice : (ss : List Sect) → (AllShareNone ss) ↔ ((a : ℕ) → times ss a ≤ 1)
 none-twice ss = (all-to-times, times-to-all ss)
 
--- with those of another list
+-- with those of another table
 tables-to-times : {xs ys : List Sect} → TablesShareNone xs ys → (a : ℕ) → 1 ≤ times xs a → 1 ≤ times ys a → ⊥
 unfolding times
 tables-to-times all-none a h k = omega arith

@@ -95,7 +95,7 @@ pub record JoinsAlike (o : ByteOrder) (m a b ab ba : List ℕ) (r : BothWays) (a
   -- with the same counts, and each with the entry of its own second table
   pub ab-answer : IsAccepted (r .«ab_loaded») → r .«ab_loaded» ≡ joinLoaded m (entryOf o b) (reading o a .sections) (reading o b .sections)
   pub ba-answer : IsAccepted (r .«ab_loaded») → r .«ba_loaded» ≡ joinLoaded m (entryOf o a) (reading o a .sections) (reading o b .sections)
-  -- and refused with the same number where that is refused
+  -- and where the one is refused, so is the other, with the same number
   pub number : r .«ba_loaded» .number ≡ r .«ab_loaded» .number
   -- they leave the same memory, at every byte, if the two tables share no address
   pub memory : TablesShareNone (reading o a .sections) (reading o b .sections) → baMemory′ ≡ abMemory′

@@ -9,12 +9,11 @@ use lib.ListN.{length, length-append}
 use Rattle.words.specs.declared.ByteOrder.{ByteOrder}
 use Rattle.words.specs.Refusal.{NOT-OPEN, STORED-TWICE}
 use Rattle.region_map.specs.Map.{mapAnswer, memorySize}
-use Rattle.boot_table.specs.declared.Form.{Form}
 use Rattle.boot_table.specs.Table.{entryOf, reading}
-use Rattle.boot_table.specs.Form.{total, formOf, WellFormed}
+use Rattle.boot_table.specs.Form.{total, WellFormed}
 use Rattle.boot_table.specs.Meaning.{lastByte}
 use Rattle.boot_table.specs.Valid.{All}
-use Rattle.boot_table.proofs.FormLaws.{well-form, total-append}
+use Rattle.boot_table.proofs.FormLaws.{total-append}
 use Rattle.boot_table.proofs.RoundTrip.{all-append, all-parts}
 use Rattle.one_write.specs.Once.{NoneInBoth, StoresOnce}
 use Rattle.one_write.proofs.OnceLaws.{once-append}
@@ -24,7 +23,7 @@ use Rattle.loader.specs.Load.{accepted, onceAnswer, mapRule, loadAnswer,
 use Rattle.loader.proofs.StoreLaws.{storeAll-append}
 use Rattle.loader.proofs.SameLaws.{same-memory}
 use Rattle.loader.proofs.RuleLaws.{same-number, opens-rule, rule-number}
-use Rattle.loader.proofs.AnswerLaws.{form-judged, load-refused, load-sized, load-judged, once-only, once-if, once-number}
+use Rattle.loader.proofs.AnswerLaws.{well-judged, load-refused, load-sized, load-judged, once-only, once-if, once-number}
 use Rattle.loader.proofs.LoadLaws.{accepted-iff, accepted-answer, accepted-memory, length-load, refusal-keeps}
 
 -- ---- sections one after the other
@@ -166,8 +165,7 @@ module _ (o : ByteOrder) (m t u : List ℕ) (first : WellFormed o t) (second : W
       (λ n. same-number (sym (load-refused o m u room (mapAnswer m) refl n) ∙ load-refused o m t room (mapAnswer m) refl n))
     where
       judged : (x : List ℕ) → WellFormed o x → mapAnswer m .number ≡ 0 → room ≡ memorySize m → rule x ≡ loadAnswer o m x room
-      judged x w s e =
-          form-judged o m x (formOf o x) refl (ap (λ (f : Form). f .number) (well-form o x w)) ∙ load-judged o m x room (mapAnswer m) refl s e
+      judged x w s e = well-judged o m x w ∙ load-judged o m x room (mapAnswer m) refl s e
 
   -- and with the same last bytes they leave the same memory
   pub rules-memory : (mem : List ℕ) → ((a : ℕ) → lastByte (reading o u .sections) a ≡ lastByte (reading o t .sections) a)

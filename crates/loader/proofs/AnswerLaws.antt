@@ -116,6 +116,10 @@ fine-is o m t sections bytes entry opens e p q =
 
 -- ---- acceptance
 
+-- what a well-formed table is answered: the map rule, and then the rule of one write
+pub well-judged : (o : ByteOrder) (m t : List ℕ) → WellFormed o t → mapRule m (onceAnswer o m t) 4 (reading o t .sections) ≡ tableAnswer o m t
+well-judged o m t w = form-judged o m t (formOf o t) refl (ap (λ (f : Form). f .number) (well-form o t w))
+
 -- a table that keeps the map rule is accepted exactly where it stores no address of kind 3 twice
 pub once-only : (o : ByteOrder) (m t : List ℕ) → onceAnswer o m t .number ≡ 0 → StoresOnce m (reading o t .sections)
 unfolding onceAnswer firstRepeat
@@ -152,7 +156,7 @@ table-only o m t z =
 pub table-if : (o : ByteOrder) (m t : List ℕ) → WellFormed o t → All (Opens m) (reading o t .sections) → StoresOnce m (reading o t .sections)
     → tableAnswer o m t ≡ accepted o m t
 table-if o m t w opens once =
-    sym (form-judged o m t (formOf o t) refl (ap (λ (f : Form). f .number) (well-form o t w)))
+    sym (well-judged o m t w)
     ∙ opens-rule m (onceAnswer o m t) 4 opens
     ∙ once-if o m t once
 
