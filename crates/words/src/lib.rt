@@ -1,4 +1,6 @@
 // Words, header words in either byte order, pads and runs of bytes, with which maps and tables are read and stored, and the lower and the higher of two numbers.
+#![tactic(auto)]
+
 ghost use Rattle.std.specs.Prelude.{◌++◌, ◌≡◌, ◌+◌, ◌*◌, ◌^◌, ◌≤◌, ◌<◌, min, max, length, drop};
 ghost use Rattle.words.specs.Word.{word_at, pad_count};
 ghost use Rattle.words.specs.Header.{header_at, header_bytes};
