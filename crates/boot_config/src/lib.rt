@@ -16,7 +16,7 @@ const ENTRY_SIZE: usize = 12;
 const MOST_REGISTERS: usize = 1_024;
 
 // What an entry asks for: a change of the register at an index, the end of the table, or a fault.
-#[derive(Drop)]
+#[derive(Clone, Copy)]
 enum Entry {
     Change {
         register: usize,
@@ -32,7 +32,7 @@ enum Entry {
 
 // What applying a table to values comes to: number 0 and the count of its entries, or its first fault and the count of
 // the entries before it.
-#[derive(Drop)]
+#[derive(Clone, Copy)]
 struct Outcome {
     number: u32,
     place: usize,
@@ -40,7 +40,7 @@ struct Outcome {
 }
 
 // What configuring answers. The number is 0 where the values were changed; bits are those that differ after the whole table.
-#[derive(Drop)]
+#[derive(Clone, Copy)]
 pub struct Configured {
     pub number: u32,
     pub place: usize,

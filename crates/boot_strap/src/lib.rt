@@ -9,14 +9,14 @@ use words::refusal::{STRAP_LONG, STRAP_RESERVED};
 const STRAP_LIMIT: u32 = 8191;
 
 // How reserved bits are taken: judged, or ignored.
-#[derive(Drop)]
+#[derive(Clone, Copy)]
 pub enum Manner {
     Strict,
     Lenient,
 }
 
 // What a strap value selects, with the fields of each kind.
-#[derive(Drop)]
+#[derive(Clone, Copy)]
 pub enum Strap {
     Sleep {
         sr: u32,
@@ -62,14 +62,14 @@ pub enum Strap {
 }
 
 // The strap that was decoded, or a refusal's number and place.
-#[derive(Drop)]
+#[derive(Clone, Copy)]
 pub enum StrapAnswer {
     Decoded(Strap),
     Refused { number: u32, place: usize },
 }
 
 // Whether two strap values are the same, or a refusal.
-#[derive(Drop)]
+#[derive(Clone, Copy)]
 pub struct SameAnswer {
     pub number: u32,
     pub place: usize,
@@ -77,7 +77,7 @@ pub struct SameAnswer {
 }
 
 // The board label's number, or a refusal.
-#[derive(Drop)]
+#[derive(Clone, Copy)]
 pub struct LabelAnswer {
     pub number: u32,
     pub place: usize,

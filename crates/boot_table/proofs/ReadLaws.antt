@@ -86,9 +86,9 @@ module _ (o : ByteOrder) (t : List ℕ) (at : ℕ) where
   pub read_no_fault : {number place : ℕ} → step_at o t at ≡ Fault number place → (read_on o t at).fault ≡ 0 → ⊥
   read_no_fault e f = fault_number o t at e (sym (ap (λ (r : Reading). r.fault) (read_fault e)) ∙ f)
 
-  -- a step that is no section (tag 0) is then the end
-  pub read_else : (s : Step) → s ≡ step_at o t at → OneOf (1 ∷ 2 ∷ []) (tag_of the_type s) → (read_on o t at).fault ≡ 0 → step_at o t at ≡ End
-  read_else (Section address size start next) e left f = absurd (⊎_elim (λ q. omega arith) (λ q. omega arith) left)
+  -- a step that is no section is then the end
+  pub read_else : (s : Step) → s ≡ step_at o t at → ((address size start next : ℕ) → s ≡ Section address size start next → ⊥) → (read_on o t at).fault ≡ 0 → step_at o t at ≡ End
+  read_else (Section address size start next) e left f = absurd (left address size start next refl)
   read_else End e left f = sym e
   read_else (Fault number place) e left f = absurd (read_no_fault (sym e) f)
 

@@ -165,13 +165,13 @@ fault_of o t at {number} {place} e = step_says o t at (Fault number place) e
 pub fault_number : (o : ByteOrder) (t : List ℕ) (at : ℕ) {number place : ℕ} → step_at o t at ≡ Fault number place → number ≡ 0 → ⊥
 fault_number o t at e z = omega (arith, (fault_of o t at e).least)
 
--- ---- the last else of a let-else knows the tags that are left: 0 a section, 1 the end, 2 a fault
+-- ---- the last else of a let-else knows what the step is not
 
 -- neither a section nor a fault
-pub end_left : (s : Step) → OneOf (1 ∷ 2 ∷ []) (tag_of the_type s) → OneOf (0 ∷ 1 ∷ []) (tag_of the_type s) → s ≡ End
-end_left (Section address size start next) p q = absurd (⊎_elim (λ e. omega arith) (λ e. omega arith) p)
+pub end_left : (s : Step) → ((address size start next : ℕ) → s ≡ Section address size start next → ⊥) → ((number place : ℕ) → s ≡ Fault number place → ⊥) → s ≡ End
+end_left (Section address size start next) p q = absurd (p address size start next refl)
 end_left End p q = refl
-end_left (Fault number place) p q = absurd (⊎_elim (λ e. omega arith) (λ e. omega arith) q)
+end_left (Fault number place) p q = absurd (q number place refl)
 
 -- ---- the section itself
 

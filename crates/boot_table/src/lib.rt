@@ -1,4 +1,6 @@
 // The boot table: one walk step, and the form of a whole table. Its header words are read in the byte order that is given.
+#![tactic(auto)]
+
 ghost use Rattle.std.specs.Prelude.{◌≡◌, ◌+◌, ◌^◌, ◌≤◌, ◌<◌, length, ltb};
 ghost use Rattle.words.specs.Header.{header_at};
 ghost use Rattle.boot_table.specs.Table.{entry_of, step_at, read_on};
@@ -11,7 +13,7 @@ use words::{ByteOrder, TOP, header_at, padded};
 pub const TABLE_LIMIT: usize = 16_777_216;
 
 // What stands at an offset: a section, whose data begins at start and after which next stands; the end; or a fault.
-#[derive(Drop)]
+#[derive(Clone, Copy)]
 pub enum Step {
     Section {
         address: u32,
@@ -27,7 +29,7 @@ pub enum Step {
 }
 
 // The form of a table: number 0 with its sections and data bytes, or its first fault.
-#[derive(Drop)]
+#[derive(Clone, Copy)]
 pub struct Form {
     pub number: u32,
     pub place: usize,

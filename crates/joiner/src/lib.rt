@@ -10,7 +10,7 @@ use words::{ByteOrder, copy, put_header};
 
 // What joining answers. The number is 0 where the output holds the join, and length and sections are then the join's;
 // a refusal has its number and place and the table that it speaks of, 1 or 2, or 0 for the join itself.
-#[derive(Drop)]
+#[derive(Clone, Copy)]
 pub struct Joined {
     pub number: u32,
     pub place: usize,

@@ -13,7 +13,7 @@ use loader::{Answer, load};
 use words::ByteOrder;
 
 // The answers of a join, of loading it, and of loading its two tables in turn.
-#[derive(Drop)]
+#[derive(Clone, Copy)]
 pub struct TurnAnswers {
     pub joined: Joined,
     pub whole: Answer,
@@ -22,7 +22,7 @@ pub struct TurnAnswers {
 }
 
 // The answers of the four joins that join three tables both ways: A with B, that with C; B with C, A with that.
-#[derive(Drop)]
+#[derive(Clone, Copy)]
 pub struct ThreeAnswers {
     pub ab: Joined,
     pub left: Joined,
@@ -31,14 +31,14 @@ pub struct ThreeAnswers {
 }
 
 // The answers of loading a table, and the table with its sections rearranged.
-#[derive(Drop)]
+#[derive(Clone, Copy)]
 pub struct RearrangedAnswers {
     pub original: Answer,
     pub rearranged: Answer,
 }
 
 // The answers of joining two tables both ways, and of loading each join.
-#[derive(Drop)]
+#[derive(Clone, Copy)]
 pub struct BothWays {
     pub ab: Joined,
     pub ba: Joined,

@@ -13,7 +13,7 @@ use words::{ByteOrder, lower};
 // ---- open stretches
 
 // A stretch of open addresses, from one on and up to another. Those after them, up to clear, are in no reserved record.
-#[derive(Drop)]
+#[derive(Clone, Copy)]
 struct Stretch {
     from: u64,
     until: u64,
@@ -115,7 +115,7 @@ fn accepted(map: &[u8], table: &[u8], order: ByteOrder, sections: usize, bytes: 
 // ---- the walk
 
 // Where a walk stands: the offset, and how many sections and data bytes it has passed.
-#[derive(Drop)]
+#[derive(Clone, Copy)]
 struct Walk {
     offset: usize,
     sections: usize,

@@ -15,7 +15,7 @@ mod storing;
 
 // What judging and loading answer. The number is 0 for an accepted table, which has no place and no address;
 // a refusal has its number and place, and for NOT_OPEN an address, and all else zero.
-#[derive(Drop)]
+#[derive(Clone, Copy)]
 pub struct Answer {
     pub number: u32,
     pub place: usize,

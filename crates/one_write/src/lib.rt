@@ -12,14 +12,14 @@ use region_map::once_from;
 use words::{ByteOrder, TOP, higher, lower};
 
 // The offset of a section that stores an address of kind 3 again, if there is one.
-#[derive(Drop)]
+#[derive(Clone, Copy)]
 pub enum Repeat {
     Nowhere,
     At(usize),
 }
 
 // The sections before one: how many there are, and that their addresses lie from low on and below high.
-#[derive(Drop)]
+#[derive(Clone, Copy)]
 struct Earlier {
     sections: usize,
     low: u64,

@@ -10,7 +10,7 @@ use words::{ByteOrder, TOP};
 // What finding answers. The number is 0 where both tables are well-formed; table is then that of the part, 1 the older
 // and 2 the newer, or 0 where neither covers the address, offset and length are the part's, or zero, and read counts the
 // bytes that were read of both tables. A refusal has its number and place and the table that it speaks of, all else zero.
-#[derive(Drop)]
+#[derive(Clone, Copy)]
 pub struct Found {
     pub number: u32,
     pub place: usize,
@@ -21,14 +21,14 @@ pub struct Found {
 }
 
 // Where a table covers an address: nowhere, or in the part that begins at the byte for the address.
-#[derive(Drop)]
+#[derive(Clone, Copy)]
 enum Hit {
     Nowhere,
     At { offset: usize, length: usize },
 }
 
 // What the header walk over a table comes to: the last hit, and how many bytes were read; or the table's fault.
-#[derive(Drop)]
+#[derive(Clone, Copy)]
 enum Walk {
     Whole { hit: Hit, read: usize },
     Faulty { number: u32, place: usize },

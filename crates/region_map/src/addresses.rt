@@ -9,7 +9,7 @@ use crate::records::{
 use words::{TOP, higher, lower};
 
 // A record that was looked for.
-#[derive(Drop)]
+#[derive(Clone, Copy)]
 pub enum Found {
     Nothing,
     Index(usize),

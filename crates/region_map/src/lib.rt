@@ -1,6 +1,8 @@
 // The region map: its records and their first fault, the addresses that it opens and those that take one write, and their
 // places in memory.
 // The map is read where it stands, and every loop goes by records.
+#![tactic(auto)]
+
 ghost use Rattle.std.specs.Prelude.{◌≡◌};
 ghost use Rattle.region_map.specs.Map.{map_refused, map_answer};
 
@@ -16,7 +18,7 @@ pub use addresses::{is_open, once_from, permitted_until, reserved_from};
 pub use places::{Region, region_of};
 
 // What judging a map answers. The number is 0 where it is sound, and bytes is then the memory to lend.
-#[derive(Drop)]
+#[derive(Clone, Copy)]
 pub struct MapAnswer {
     pub number: u32,
     pub place: usize,

@@ -7,7 +7,7 @@ use crate::addresses::{Found, find_holder};
 use crate::records::{RECORD_SIZE, end_at, first_at, is_permitted, length_at};
 
 // The addresses of a permitted record, from its first up to its end, and the place in memory of the first.
-#[derive(Drop)]
+#[derive(Clone, Copy)]
 pub struct Region {
     pub first: u64,
     pub end: u64,

@@ -40,7 +40,7 @@ pub const RESERVED: u8 = 2;
 pub const ONE_WRITE: u8 = 3;
 
 // What is wrong with a map: nothing, its length, or its first record that breaks a rule.
-#[derive(Drop)]
+#[derive(Clone, Copy)]
 pub enum MapFault {
     Sound,
     Length,
@@ -141,7 +141,7 @@ pub fn record_holds(map: &[u8], i: usize, address: u64) -> bool
 // ---- the first fault
 
 // The addresses from low on and below high: those of the permitted records so far lie between the two.
-#[derive(Drop)]
+#[derive(Clone, Copy)]
 struct Span {
     low: u64,
     high: u64,

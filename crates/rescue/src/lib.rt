@@ -11,7 +11,7 @@ use words::{ByteOrder, copy, put_header};
 
 // What rescuing answers. The number is 0 where the output holds the rescued table: its length, how many sections were kept,
 // how many bytes of the input were not used, and whether the zero word had to be added. A refusal has its number, and all else is zero.
-#[derive(Drop)]
+#[derive(Clone, Copy)]
 pub struct Rescued {
     pub number: u32,
     pub place: usize,
@@ -22,7 +22,7 @@ pub struct Rescued {
 }
 
 // The whole sections from a table's start: how many, the offset behind them, and whether a zero word stands there.
-#[derive(Drop)]
+#[derive(Clone, Copy)]
 struct Run {
     sections: usize,
     end: usize,

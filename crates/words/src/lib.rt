@@ -34,7 +34,7 @@ pub fn word_at(bytes: &[u8], at: usize) -> u32
 }
 
 // The order of the bytes of a boot table's header words, which are its entry and each section's size and address.
-#[derive(Drop)]
+#[derive(Clone, Copy)]
 pub enum ByteOrder {
     HighFirst,
     LowFirst,

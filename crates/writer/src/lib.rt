@@ -12,7 +12,7 @@ use words::{ByteOrder, copy, padded, put_four, put_header};
 
 // A section of the list: its address, and where its data begins in the lent data and how many bytes it has.
 #[repr(C)]
-#[derive(Drop)]
+#[derive(Clone, Copy)]
 pub struct Section {
     pub address: u32,
     pub start: u32,
@@ -20,7 +20,7 @@ pub struct Section {
 }
 
 // What writing answers. The number is 0 where the output holds the table, and length and sections are then the table's.
-#[derive(Drop)]
+#[derive(Clone, Copy)]
 pub struct Written {
     pub number: u32,
     pub place: usize,
@@ -29,7 +29,7 @@ pub struct Written {
 }
 
 // What a list comes to: number 0 and the length of its table, or the first bad section's fault and index.
-#[derive(Drop)]
+#[derive(Clone, Copy)]
 struct Judged {
     number: u32,
     place: usize,

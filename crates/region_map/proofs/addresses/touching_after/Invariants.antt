@@ -1,0 +1,15 @@
+-- `region_map::addresses::touching_after`: the records before j have permitted up to the address where those from j on go on.
+use Rattle.region_map.proofs.RecordLaws.{after_yes, after_no}
+use Rattle.region_map.specs.Map.{count}
+use Rattle.region_map.specs.Search.{touching_after}
+use borrow.Author.Tests.{not-true, not-false}
+use native.Mathlib.Omega.{arith}
+use mathlib.Core.Path.{◌≡◌, refl, sym, ◌∙◌, ap}
+use Prim.Native.Nat.{◌≤◌, ◌-◌, ◌+◌}
+use Rattle.region_map.proofs.addresses.touching_after.Given as goal
+
+abbrev pub invariant-loop-j : goal.invariant-loop-j
+invariant-loop-j l = (l.j ≤ l.n) × (l.n ≡ count l.map) × (touching_after l.map (count l.map - l.i) l.i l.address ≡ touching_after l.map (l.n - l.j) l.j l.until)
+
+abbrev pub decreases-loop-j : goal.decreases-loop-j
+decreases-loop-j l = l.n - l.j

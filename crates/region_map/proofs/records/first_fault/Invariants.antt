@@ -1,0 +1,16 @@
+-- `region_map::records::first_fault`: the first i records are sound, so that the first fault is that of the others.
+use Prim.Native.Nat.{◌≤◌, ◌-◌, ◌%◌}
+use Rattle.region_map.proofs.FaultLaws.{fault_at, fault_no}
+use Rattle.region_map.specs.Map.{record_size, map_limit, count, map_fault, fault_from}
+use Rattle.region_map.specs.Search.{Within}
+use borrow.Author.Tests.{ne_eqb, eq-eqb, lt-leb, le-leb, not-true, not-false}
+use lib.ListN.{length}
+use native.Mathlib.Omega.{arith}
+use mathlib.Core.Path.{◌≡◌, refl, sym, ◌∙◌}
+use Rattle.region_map.proofs.records.first_fault.Given as goal
+
+abbrev pub invariant-loop-i : goal.invariant-loop-i
+invariant-loop-i l = (l.i ≤ l.n) × (l.n ≡ count l.map) × (map_fault l.map ≡ fault_from l.map (l.n - l.i) l.i) × Within l.map l.i l.span.low l.span.high
+
+abbrev pub decreases-loop-i : goal.decreases-loop-i
+decreases-loop-i l = l.n - l.i
