@@ -1,4 +1,6 @@
 // The boot configuration table: entries that set and clear bits of lent registers.
+#![tactic(auto)]
+
 ghost use Rattle.std.specs.Prelude.{◌≡◌, ◌≤◌, ◌<◌, length, get_or, set};
 ghost use Rattle.boot_config.specs.Registers.{most_registers, rising, Listed, index_of, masked, changed_bits};
 ghost use Rattle.boot_config.specs.Config.{config_limit, entry_at, applied, outcome, config_refused, config_answer, config_values};

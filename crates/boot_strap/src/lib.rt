@@ -1,4 +1,6 @@
 // The boot strap value: what its 13 bits select.
+#![tactic(auto)]
+
 ghost use Rattle.std.specs.Prelude.{◌≡◌, [], ◌∷◌};
 ghost use Rattle.boot_strap.specs.Strap.{strap_of, is_strict, is_reserved, decode_as, numbers_as, decode_short, numbers_short};
 ghost use Rattle.boot_strap.specs.Strap.{kind_of, fields_of, answer_numbers, nine, same_strap, same_refused, same_answer, label_answer};

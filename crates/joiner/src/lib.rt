@@ -1,4 +1,6 @@
 // Joining two boot tables into a lent output.
+#![tactic(auto)]
+
 ghost use Rattle.std.specs.Prelude.{◌≡◌, ◌+◌, ◌≤◌, length};
 ghost use Rattle.words.specs.Run.{over};
 ghost use Rattle.boot_table.specs.Form.{WellFormed};

@@ -1,4 +1,6 @@
 // The text of a boot table, written into a lent buffer.
+#![tactic(auto)]
+
 ghost use Rattle.std.specs.Prelude.{◌≡◌, ◌+◌, ◌*◌, ◌≤◌, ◌<◌, length};
 ghost use Rattle.words.specs.Run.{over};
 ghost use Rattle.boot_table.specs.Table.{reading};

@@ -1,5 +1,7 @@
 // Addresses that take one write: the first section of a table that stores one of them again.
 // Sections are held against sections, and what two of them share against the map's records; no loop goes by addresses.
+#![tactic(auto)]
+
 ghost use Rattle.std.specs.Prelude.{◌≡◌, ◌^◌, ◌≤◌, ◌<◌, min, max, take};
 ghost use Rattle.region_map.specs.Map.{once};
 ghost use Rattle.boot_table.specs.Table.{reading};

@@ -1,4 +1,6 @@
 // What stands at an address in two boot tables, an older and a newer one. Of the tables only size and address words are read.
+#![tactic(auto)]
+
 ghost use Rattle.std.specs.Prelude.{◌≡◌, ◌+◌, ◌^◌, ◌≤◌, ◌<◌};
 ghost use Rattle.query.specs.Find.{latest, walked, find_refused, found_part, from_hits, find_answer, in_newer, found_bytes, found_start};
 ghost use Rattle.query.specs.OneSection.{hit_in};

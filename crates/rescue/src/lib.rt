@@ -1,4 +1,6 @@
 // Rescuing a cut boot table: its whole sections from the start are written into a lent output as a table.
+#![tactic(auto)]
+
 ghost use Rattle.std.specs.Prelude.{◌++◌, ◌≡◌, ◌+◌, ◌≤◌, ◌<◌, ◌^◌, length};
 ghost use Rattle.words.specs.Header.{header_bytes};
 ghost use Rattle.words.specs.Run.{over};

@@ -1,4 +1,6 @@
 // Writing a boot table from a list of sections into a lent output.
+#![tactic(auto)]
+
 ghost use Rattle.std.specs.Prelude.{◌≡◌, ◌+◌, ◌^◌, ◌≤◌, ◌<◌, length};
 ghost use Rattle.words.specs.Run.{over};
 ghost use Rattle.words.specs.Word.{pad_count};

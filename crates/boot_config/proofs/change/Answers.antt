@@ -1,0 +1,6 @@
+-- `boot_config::change`: one register gets its masked value.
+use borrow.Author.Rules.{rules}
+use Rattle.boot_config.proofs.change.Goals as goal
+
+pub returns : goal.returns
+returns c = rw c.mask.ensures

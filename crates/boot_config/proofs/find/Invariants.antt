@@ -1,0 +1,13 @@
+-- `boot_config::find`: each turn halves the places where the address can stand, and as many turns as halve 1,023 leave one.
+use Prim.Native.Nat.{◌+◌, ◌*◌, ◌/◌, ◌≤◌}
+use mathlib.Core.Path.{◌≡◌, sym}
+use native.Mathlib.Omega.{arith}
+use borrow.Author.Rules.{rules}
+use Rattle.boot_config.proofs.RegisterLaws.{index_le, Between, found, halved, not_found}
+use Rattle.boot_config.proofs.find.Given as goal
+
+abbrev pub invariant-loop-most : goal.invariant-loop-most
+invariant-loop-most l = (l.more ≤ l.most) × Between l.addresses l.address l.low l.more
+
+abbrev pub decreases-loop-most : goal.decreases-loop-most
+decreases-loop-most l = l.most

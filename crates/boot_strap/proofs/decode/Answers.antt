@@ -1,0 +1,8 @@
+-- `boot_strap::decode` meets its contract.
+use Rattle.boot_strap.specs.Strap.{decode_short, numbers_short}
+use borrow.Author.Rules.{rules}
+use Rattle.boot_strap.proofs.decode.Goals as goal
+
+pub returns : goal.returns
+unfolding decode_short numbers_short
+returns c = record { value = (c.decode_as.ensures).0; result_value = (c.decode_as.ensures).1 }

@@ -1,0 +1,33 @@
+-- `joiner::copy_sections`: the sections before the offset are copied as one run, and the table is whole from there on.
+use Prim.Native.Nat.{ℕ, ◌≤◌, ◌+◌, ◌-◌}
+use mathlib.Core.Path.{◌≡◌, refl, sym, ap, ◌∙◌}
+use mathlib.Core.List.{List}
+use native.Mathlib.Omega.{arith}
+use borrow.Author.Rules.{rules}
+use lib.ListN.{length, take, drop, length-take, length-drop}
+use lib.Seq.{length-take-le}
+use Rattle.words.specs.declared.ByteOrder.{ByteOrder}
+use Rattle.words.specs.Run.{over}
+use Rattle.words.proofs.RunLaws.{lent_back, over_none, length_over}
+use Rattle.boot_table.specs.declared.Step.TheVariants.{Section}
+use Rattle.boot_table.specs.Table.{step_at, read_on}
+use Rattle.boot_table.proofs.StepLaws.{section_of, end_of}
+use Rattle.boot_table.proofs.ReadLaws.{read_else, read_room, read_next}
+use Rattle.boot_table.proofs.FormLaws.{well_read}
+use Rattle.joiner.proofs.WriteLaws.{copy_section}
+use Rattle.joiner.proofs.copy_sections.Given as goal
+
+-- the table is whole from at on, and its sections before at are copied into the output, where they end at offset to
+pub record Copied (o : ByteOrder) (t d : List ℕ) (from : ℕ) (out : List ℕ) (at to : ℕ) : Type 0 where
+  pub low : 4 ≤ at
+  pub whole : (read_on o t at).fault ≡ 0
+  pub room : at + 4 ≤ length t
+  pub place : to + 4 ≡ from + at
+  pub same : length out ≡ length d
+  pub is : out ≡ over d from (take (at - 4) (drop 4 t))
+
+abbrev pub invariant-loop-next : goal.invariant-loop-next
+invariant-loop-next l = Copied l.order l.table l.initial.output l.from l.output l.at l.to
+
+abbrev pub decreases-loop-next : goal.decreases-loop-next
+decreases-loop-next l = length l.table - l.at

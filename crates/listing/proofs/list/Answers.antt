@@ -1,0 +1,75 @@
+-- `listing::list`: each return is the text that the tests before it lead to, or nothing where the buffer is too short.
+use Prim.Native.Nat.{◌+◌, ◌≤◌}
+use native.Mathlib.Omega.{arith}
+use borrow.Author.Rules.{rules}
+use lib.ListN.{length}
+use Rattle.boot_table.specs.Table.{entry_of, reading}
+use Rattle.boot_table.proofs.FormLaws.{well_long}
+use Rattle.boot_table.specs.Form.{WellFormed}
+use Rattle.boot_table.specs.declared.Form.{Form}
+use Rattle.listing.specs.Text.{decimal_text}
+use Rattle.listing.specs.Listing.{list_limit, entry_line, section_lines, end_line, text_bound}
+use Rattle.listing.proofs.TextLaws.{put_three}
+use Rattle.listing.proofs.ListingLaws.{length_entry, length_end, length_refused, text_long, bound_long, bound_within, text_refused, refused_few, listed_well, text_listed, listed_room, text_bound_lem, list_none, list_put}
+use Rattle.listing.proofs.list.Goals as goal
+use Rattle.listing.proofs.list.Goals.{Else-form-ne0}
+
+pub returns-then-buffer-lt9 : goal.returns-then-buffer-lt9
+returns-then-buffer-lt9 c = list_none _ c.args.table.now c.args.buffer.now (omega (arith, bound_long c.args.table.now (omega arith)))
+
+pub returns-then-table-gt-LIST_LIMIT : goal.returns-then-table-gt-LIST_LIMIT
+returns-then-table-gt-LIST_LIMIT c =
+    let t = c.args.table.now in
+    list_put _ t c.args.buffer.now (omega (arith, bound_long t (omega arith))) _ _ (rw (text_long _ t (omega arith)) c.put.ensures)
+
+pub returns-then-buffer-table : goal.returns-then-buffer-table
+returns-then-buffer-table c = list_none _ c.args.table.now c.args.buffer.now (omega (arith, bound_within c.args.table.now (omega arith)))
+
+pub put_refused-requires : goal.put_refused-requires
+put_refused-requires c =
+    rw length_refused (omega (arith, refused_few _ c.args.table.now (omega arith) c.form_of-form.result c.form_of-form.ensures))
+
+pub returns-then-form-ne0 : goal.returns-then-form-ne0
+returns-then-form-ne0 c =
+    let t = c.args.table.now in
+    list_put _ t c.args.buffer.now (omega (arith, bound_within t (omega arith))) _ _
+    (rw (text_refused _ t (omega arith) c.form_of-form.result c.form_of-form.ensures c.if-form-ne0.true) c.Put-refused.ensures)
+
+-- a table that is listed: it is within the limit and well-formed, and the buffer has room for its text, line by line
+module _ (c : Else-form-ne0) where
+  abbrev given : tie.Start
+  given = <<Start>>
+  abbrev form : Form
+  form = c.form_of-form.result
+  short : length given.args.table.now ≤ list_limit
+  short = omega arith
+  well : WellFormed given.args.order given.args.table.now
+  well = listed_well _ given.args.table.now short form c.form_of-form.ensures c.if-form-ne0.false
+  room : 21 + length (section_lines (reading given.args.order given.args.table.now).sections) + length (decimal_text form.sections) + length (decimal_text form.bytes) ≤ length given.args.buffer.now
+  room = omega (arith, listed_room _ given.args.table.now short form c.form_of-form.ensures c.if-form-ne0.false)
+  enough : text_bound given.args.table.now ≤ length given.args.buffer.now
+  enough = omega (arith, bound_within given.args.table.now short)
+
+pub entry_of-requires : goal.entry_of-requires
+entry_of-requires c = omega (arith, well_long _ _ (well (goal.at.entry_of-requires c).Else-form-ne0))
+
+pub put_entry-a-requires : goal.put_entry-a-requires
+put_entry-a-requires c = omega (arith, length_entry c.entry_of.result, room (goal.at.put_entry-a-requires c).Else-form-ne0)
+
+pub put_sections-b-requires : goal.put_sections-b-requires
+put_sections-b-requires c =
+    (well (goal.at.put_sections-b-requires c).Else-form-ne0, omega (arith, length_entry c.entry_of.result, room (goal.at.put_sections-b-requires c).Else-form-ne0))
+
+pub put_end-requires : goal.put_end-requires
+put_end-requires c = rw length_end (omega (arith, length_entry c.entry_of.result, room (goal.at.put_end-requires c).Else-form-ne0))
+
+pub returns : goal.returns
+returns c =
+    let o = (given (goal.at.returns c).Else-form-ne0).args.order in
+    let t = (given (goal.at.returns c).Else-form-ne0).args.table.now in
+    let d = (given (goal.at.returns c).Else-form-ne0).args.buffer.now in
+    let e = text_listed o t (short (goal.at.returns c).Else-form-ne0) (form (goal.at.returns c).Else-form-ne0) c.form_of-form.ensures c.if-form-ne0.false in
+    list_put o t d (enough (goal.at.returns c).Else-form-ne0) c.put_end.result c.put_end.new.buffer (rw e
+    (put_three d 0 (entry_line (entry_of o t)) (section_lines (reading o t).sections) (end_line (form (goal.at.returns c).Else-form-ne0).sections (form (goal.at.returns c).Else-form-ne0).bytes)
+    c.put_entry-a.new.buffer c.put_sections-b.new.buffer c.put_end.new.buffer c.put_entry-a.result c.put_sections-b.result c.put_end.result
+    (rw (← e) (omega (arith, text_bound_lem o t, enough (goal.at.returns c).Else-form-ne0))) (rw c.entry_of.ensures at c.put_entry-a.ensures) c.put_sections-b.ensures c.put_end.ensures))

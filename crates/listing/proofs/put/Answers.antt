@@ -1,0 +1,9 @@
+-- `listing::put`: the part that was lent is back with the bytes at its front.
+use mathlib.Core.Path.{refl}
+use native.Mathlib.Omega.{arith}
+use borrow.Author.Rules.{rules}
+use Rattle.words.proofs.RunLaws.{lent_back}
+use Rattle.listing.proofs.put.Goals as goal
+
+pub returns : goal.returns
+returns c = (refl, lent_back c.args.buffer.now c.args.bytes.now c.copy.new.part c.args.at (omega arith) c.copy.ensures)

@@ -1,0 +1,31 @@
+-- `listing::put_sections`: the lines before the offset are written, and writing those from it on comes to writing all.
+use Prim.Native.Nat.{ℕ, ◌+◌, ◌-◌}
+use mathlib.Core.Path.{◌≡◌, refl, sym, ap, ◌∙◌}
+use mathlib.Core.List.{List}
+use native.Mathlib.Omega.{arith}
+use borrow.Author.Rules.{rules}
+use lib.ListN.{length, length-append}
+use Rattle.words.specs.declared.ByteOrder.{ByteOrder}
+use Rattle.words.specs.Run.{over}
+use Rattle.words.proofs.RunLaws.{over_none, over_over}
+use Rattle.boot_table.specs.declared.Step.TheVariants.{Section}
+use Rattle.boot_table.specs.Table.{Reading, step_at, reading, read_on}
+use Rattle.boot_table.proofs.StepLaws.{section_of}
+use Rattle.boot_table.proofs.ReadLaws.{read_else, read_next}
+use Rattle.boot_table.proofs.FormLaws.{well_read}
+use Rattle.listing.specs.Listing.{section_line, section_lines}
+use Rattle.listing.proofs.ListingLaws.{lines_section, lines_end}
+use Rattle.listing.proofs.put_sections.Given as goal
+
+-- the table is whole from at on, and the lines before at are written up to offset to
+pub record Listed (o : ByteOrder) (t d : List ℕ) (from : ℕ) (out : List ℕ) (at to : ℕ) : Type 0 where
+  pub whole : (read_on o t at).fault ≡ 0
+  pub same : length out ≡ length d
+  pub place : from + length (section_lines (reading o t).sections) ≡ to + length (section_lines (read_on o t at).sections)
+  pub rest : over d from (section_lines (reading o t).sections) ≡ over out to (section_lines (read_on o t at).sections)
+
+abbrev pub invariant-loop-address : goal.invariant-loop-address
+invariant-loop-address l = Listed l.order l.table l.initial.buffer l.from l.buffer l.at l.to
+
+abbrev pub decreases-loop-address : goal.decreases-loop-address
+decreases-loop-address l = length l.table - l.at

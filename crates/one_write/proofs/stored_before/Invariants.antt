@@ -1,0 +1,27 @@
+-- `one_write::stored_before`: of the range, the sections that are left say the same as all the first ones.
+use Prim.Native.Nat.{ℕ, ◌≤◌, ◌<◌}
+use mathlib.Core.Path.{◌≡◌, sym, ◌∙◌, ap}
+use mathlib.Core.List.{List}
+use native.Mathlib.Omega.{arith}
+use borrow.Author.Rules.{rules}
+use lib.ListN.{take}
+use Rattle.words.specs.declared.ByteOrder.{ByteOrder}
+use Rattle.boot_table.specs.declared.Step.TheVariants.{Section}
+use Rattle.boot_table.specs.Table.{Reading, step_at, reading, read_on}
+use Rattle.boot_table.proofs.StepLaws.{section_of}
+use Rattle.boot_table.proofs.ReadLaws.{read_else, read_next}
+use Rattle.boot_table.proofs.FormLaws.{well_read}
+use Rattle.one_write.specs.Once.{written}
+use Rattle.one_write.proofs.WalkLaws.{meets_none, meets_same, left_hit, left_miss, none_written, end_written}
+use Rattle.one_write.proofs.stored_before.Given as goal
+
+-- the table is whole from the offset on, and of the range its sections there say the same as the first k of all
+pub record Left (o : ByteOrder) (m t : List ℕ) (k first end at left : ℕ) : Type 0 where
+  pub whole : (read_on o t at).fault ≡ 0
+  pub rest : (x : ℕ) → first ≤ x → x < end → written m (take k (reading o t).sections) x ≡ written m (take left (read_on o t at).sections) x
+
+abbrev pub invariant-loop-left : goal.invariant-loop-left
+invariant-loop-left l = Left l.order l.map l.table l.sections l.first l.end l.offset l.left
+
+abbrev pub decreases-loop-left : goal.decreases-loop-left
+decreases-loop-left l = l.left

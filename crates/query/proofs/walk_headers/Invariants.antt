@@ -1,0 +1,27 @@
+-- `query::walk_headers`: the hit and the bytes read so far, and what reading on finds, come to the walk over the table.
+use Prim.Native.Nat.{ℕ, ◌≤◌, ◌-◌}
+use mathlib.Core.Path.{◌≡◌, refl, sym, ◌∙◌}
+use mathlib.Core.List.{List}
+use native.Mathlib.Omega.{arith}
+use borrow.Author.Rules.{rules}
+use lib.ListN.{length}
+use Rattle.words.specs.declared.ByteOrder.{ByteOrder}
+use Rattle.boot_table.specs.declared.Step.TheVariants.{Section}
+use Rattle.boot_table.specs.Table.{step_at, read_on}
+use Rattle.boot_table.proofs.StepLaws.{section_of, end_left}
+use Rattle.query.specs.declared.Hit.{Hit}
+use Rattle.query.specs.Find.{latest, walked}
+use Rattle.query.proofs.WalkLaws.{resume, walk_long, walk_cut, walk_start, walk_section, walk_end, walk_fault}
+use Rattle.query.proofs.walk_headers.Given as goal
+
+-- no more bytes were read than stand before at, and what is read on decides what the walk comes to
+pub record Passed (o : ByteOrder) (t : List ℕ) (a at : ℕ) (hit : Hit) (read : ℕ) : Type 0 where
+  pub within : at ≤ length t
+  pub few : read ≤ at
+  pub is : walked o t a ≡ resume a hit read at (read_on o t at)
+
+abbrev pub invariant-loop-first : goal.invariant-loop-first
+invariant-loop-first l = Passed l.order l.table l.address l.at l.hit l.read
+
+abbrev pub decreases-loop-first : goal.decreases-loop-first
+decreases-loop-first l = length l.table - l.at

@@ -1,0 +1,28 @@
+-- `rescue::whole_run`: the sections that were passed and those that are read on come to the run of the table.
+use Prim.Native.Nat.{ℕ, ◌≤◌, ◌-◌}
+use mathlib.Core.Path.{◌≡◌, refl, sym, ◌∙◌}
+use mathlib.Core.List.{List}
+use native.Mathlib.Omega.{arith}
+use borrow.Author.Rules.{rules}
+use borrow.Author.Tests.{ne_eqb}
+use lib.ListN.{length}
+use Rattle.words.specs.declared.ByteOrder.{ByteOrder}
+use Rattle.boot_table.specs.declared.Step.TheVariants.{Section}
+use Rattle.boot_table.specs.Table.{step_at, read_on}
+use Rattle.boot_table.proofs.StepLaws.{section_of, fault_number, end_left}
+use Rattle.rescue.specs.Rescue.{has_zero}
+use Rattle.rescue.specs.WholeRun.{run_on, whole_run}
+use Rattle.rescue.proofs.WholeRunLaws.{run_starts, run_section, run_end, run_fault}
+use Rattle.rescue.proofs.whole_run.Given as goal
+
+-- k sections stand before at, and what is read on decides the run
+pub record Passed (o : ByteOrder) (t : List ℕ) (at k : ℕ) : Type 0 where
+  pub within : at ≤ length t
+  pub few : k ≤ at
+  pub run : whole_run o t ≡ run_on o k at (read_on o t at)
+
+abbrev pub invariant-loop-next : goal.invariant-loop-next
+invariant-loop-next l = Passed l.order l.table l.at l.sections
+
+abbrev pub decreases-loop-next : goal.decreases-loop-next
+decreases-loop-next l = length l.table - l.at
