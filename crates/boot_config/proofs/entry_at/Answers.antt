@@ -7,7 +7,7 @@ use borrow.Author.Rules.{rules}
 use lib.Dec.{eqb}
 use Rattle.boot_config.proofs.EntryLaws.{some_set, some_clear, entry_cut, entry_branch, entry_after, entry_end, entry_unknown, entry_change}
 use Rattle.boot_config.proofs.entry_at.Goals as goal
-use Rattle.boot_config.proofs.entry_at.Goals.{After-find-register}
+use Rattle.boot_config.proofs.entry_at.Goals.{After-find-register, then-put-eq0+else-clear-eq0, else-put-eq0}
 
 pub returns-then-table-at-lt-ENTRY_SIZE : goal.returns-then-table-at-lt-ENTRY_SIZE
 returns-then-table-at-lt-ENTRY_SIZE c = c.fault.ensures ∙ sym (entry_cut _ _ _ (omega arith))
@@ -30,20 +30,20 @@ returns-then-clear-eq0 c =
     c.if-put-eq0.true c.if-clear-eq0.true (omega arith) (omega arith))
 
 -- an entry that is searched for has a mask that is not zero
-some-mask : (c : After-find-register) → (eqb c.word_at-put.result 0 && eqb c.word_at-clear.result 0) ≡ false
-some-mask c =
-    ⊎_elim
-    (λ m. some_clear c.word_at-put.result c.word_at-clear.result m.1.left)
-    (λ m. some_set c.word_at-put.result c.word_at-clear.result m.left)
-    c.if-put-eq0.branch
+some_mask : (c : After-find-register) → (eqb c.word_at-put.result 0 && eqb c.word_at-clear.result 0) ≡ false
+some_mask c =
+    elim c.if-put-eq0.branch [
+      then-put-eq0+else-clear-eq0 w ↦ some_clear c.word_at-put.result c.word_at-clear.result w.if-clear-eq0.false
+      | else-put-eq0 w ↦ some_set c.word_at-put.result c.word_at-clear.result w.if-put-eq0.false
+    ]
 
 pub returns-then-register-addresses : goal.returns-then-register-addresses
 returns-then-register-addresses c =
     c.fault-then-register-addresses.ensures
     ∙ sym (entry_unknown _ _ _ (omega arith) c.word_at-address.ensures c.word_at-put.ensures c.word_at-clear.ensures
-    (some-mask (goal.at.returns-then-register-addresses c).After-find-register) c.find-register.ensures c.if-register-addresses.true)
+    (some_mask (goal.at.returns-then-register-addresses c).After-find-register) c.find-register.ensures c.if-register-addresses.true)
 
 pub returns : goal.returns
 returns c =
     sym (entry_change _ _ _ (omega arith) c.word_at-address.ensures c.word_at-put.ensures c.word_at-clear.ensures
-    (some-mask (goal.at.returns c).After-find-register) c.find-register.ensures c.if-register-addresses.false)
+    (some_mask (goal.at.returns c).After-find-register) c.find-register.ensures c.if-register-addresses.false)

@@ -15,15 +15,16 @@ use Rattle.listing.proofs.list.Goals as goal
 use Rattle.listing.proofs.list.Goals.{Else-form-ne0}
 
 pub returns-then-buffer-lt9 : goal.returns-then-buffer-lt9
-returns-then-buffer-lt9 c = list_none _ c.args.table.now c.args.buffer.now (omega (arith, bound_long c.args.table.now (omega arith)))
+returns-then-buffer-lt9 c =
+    record { value = (list_none _ c.args.table.now c.args.buffer.now (omega (arith, bound_long c.args.table.now (omega arith)))).0; buffer_after = (list_none _ c.args.table.now c.args.buffer.now (omega (arith, bound_long c.args.table.now (omega arith)))).1 }
 
 pub returns-then-table-gt-LIST_LIMIT : goal.returns-then-table-gt-LIST_LIMIT
 returns-then-table-gt-LIST_LIMIT c =
-    let t = c.args.table.now in
-    list_put _ t c.args.buffer.now (omega (arith, bound_long t (omega arith))) _ _ (rw (text_long _ t (omega arith)) c.put.ensures)
+    let t = c.args.table.now in record { value = (list_put _ t c.args.buffer.now (omega (arith, bound_long t (omega arith))) _ _ (rw (text_long _ t (omega arith)) c.put.ensures)).0; buffer_after = (list_put _ t c.args.buffer.now (omega (arith, bound_long t (omega arith))) _ _ (rw (text_long _ t (omega arith)) c.put.ensures)).1 }
 
 pub returns-then-buffer-table : goal.returns-then-buffer-table
-returns-then-buffer-table c = list_none _ c.args.table.now c.args.buffer.now (omega (arith, bound_within c.args.table.now (omega arith)))
+returns-then-buffer-table c =
+    record { value = (list_none _ c.args.table.now c.args.buffer.now (omega (arith, bound_within c.args.table.now (omega arith)))).0; buffer_after = (list_none _ c.args.table.now c.args.buffer.now (omega (arith, bound_within c.args.table.now (omega arith)))).1 }
 
 pub put_refused-requires : goal.put_refused-requires
 put_refused-requires c =
@@ -31,9 +32,7 @@ put_refused-requires c =
 
 pub returns-then-form-ne0 : goal.returns-then-form-ne0
 returns-then-form-ne0 c =
-    let t = c.args.table.now in
-    list_put _ t c.args.buffer.now (omega (arith, bound_within t (omega arith))) _ _
-    (rw (text_refused _ t (omega arith) c.form_of-form.result c.form_of-form.ensures c.if-form-ne0.true) c.Put-refused.ensures)
+    let t = c.args.table.now in record { value = (list_put _ t c.args.buffer.now (omega (arith, bound_within t (omega arith))) _ _ (rw (text_refused _ t (omega arith) c.form_of-form.result c.form_of-form.ensures c.if-form-ne0.true) c.Put-refused.ensures)).0; buffer_after = (list_put _ t c.args.buffer.now (omega (arith, bound_within t (omega arith))) _ _ (rw (text_refused _ t (omega arith) c.form_of-form.result c.form_of-form.ensures c.if-form-ne0.true) c.Put-refused.ensures)).1 }
 
 -- a table that is listed: it is within the limit and well-formed, and the buffer has room for its text, line by line
 module _ (c : Else-form-ne0) where
@@ -68,8 +67,4 @@ returns c =
     let o = (given (goal.at.returns c).Else-form-ne0).args.order in
     let t = (given (goal.at.returns c).Else-form-ne0).args.table.now in
     let d = (given (goal.at.returns c).Else-form-ne0).args.buffer.now in
-    let e = text_listed o t (short (goal.at.returns c).Else-form-ne0) (form (goal.at.returns c).Else-form-ne0) c.form_of-form.ensures c.if-form-ne0.false in
-    list_put o t d (enough (goal.at.returns c).Else-form-ne0) c.put_end.result c.put_end.new.buffer (rw e
-    (put_three d 0 (entry_line (entry_of o t)) (section_lines (reading o t).sections) (end_line (form (goal.at.returns c).Else-form-ne0).sections (form (goal.at.returns c).Else-form-ne0).bytes)
-    c.put_entry-a.new.buffer c.put_sections-b.new.buffer c.put_end.new.buffer c.put_entry-a.result c.put_sections-b.result c.put_end.result
-    (rw (← e) (omega (arith, text_bound_lem o t, enough (goal.at.returns c).Else-form-ne0))) (rw c.entry_of.ensures at c.put_entry-a.ensures) c.put_sections-b.ensures c.put_end.ensures))
+    let e = text_listed o t (short (goal.at.returns c).Else-form-ne0) (form (goal.at.returns c).Else-form-ne0) c.form_of-form.ensures c.if-form-ne0.false in record { value = (list_put o t d (enough (goal.at.returns c).Else-form-ne0) c.put_end.result c.put_end.new.buffer (rw e (put_three d 0 (entry_line (entry_of o t)) (section_lines (reading o t).sections) (end_line (form (goal.at.returns c).Else-form-ne0).sections (form (goal.at.returns c).Else-form-ne0).bytes) c.put_entry-a.new.buffer c.put_sections-b.new.buffer c.put_end.new.buffer c.put_entry-a.result c.put_sections-b.result c.put_end.result (rw (← e) (omega (arith, text_bound_lem o t, enough (goal.at.returns c).Else-form-ne0))) (rw c.entry_of.ensures at c.put_entry-a.ensures) c.put_sections-b.ensures c.put_end.ensures))).0; buffer_after = (list_put o t d (enough (goal.at.returns c).Else-form-ne0) c.put_end.result c.put_end.new.buffer (rw e (put_three d 0 (entry_line (entry_of o t)) (section_lines (reading o t).sections) (end_line (form (goal.at.returns c).Else-form-ne0).sections (form (goal.at.returns c).Else-form-ne0).bytes) c.put_entry-a.new.buffer c.put_sections-b.new.buffer c.put_end.new.buffer c.put_entry-a.result c.put_sections-b.result c.put_end.result (rw (← e) (omega (arith, text_bound_lem o t, enough (goal.at.returns c).Else-form-ne0))) (rw c.entry_of.ensures at c.put_entry-a.ensures) c.put_sections-b.ensures c.put_end.ensures))).1 }

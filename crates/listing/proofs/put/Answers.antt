@@ -6,4 +6,5 @@ use Rattle.words.proofs.RunLaws.{lent_back}
 use Rattle.listing.proofs.put.Goals as goal
 
 pub returns : goal.returns
-returns c = (refl, lent_back c.args.buffer.now c.args.bytes.now c.copy.new.part c.args.at (omega arith) c.copy.ensures)
+returns c =
+    record { value = refl; buffer_after = lent_back c.args.buffer.now c.args.bytes.now c.copy.new.part c.args.at (omega arith) c.copy.ensures }

@@ -32,4 +32,4 @@ put-requires c = omega (arith, room (goal.at.put-requires c).After-put-arg-2-1)
 pub returns : goal.returns
 unfolding end_line
 returns c =
-    put_five c.args.buffer.now c.args.at _ _ _ _ _ c.put-a.new.buffer c.put_decimal-b.new.buffer c.put-c.new.buffer c.put_decimal-d.new.buffer c.put.new.buffer _ _ _ _ _ c.requires c.put-a.ensures c.put_decimal-b.ensures c.put-c.ensures c.put_decimal-d.ensures c.put.ensures
+    record { value = (put_five c.args.buffer.now c.args.at _ _ _ _ _ c.put-a.new.buffer c.put_decimal-b.new.buffer c.put-c.new.buffer c.put_decimal-d.new.buffer c.put.new.buffer _ _ _ _ _ c.requires c.put-a.ensures c.put_decimal-b.ensures c.put-c.ensures c.put_decimal-d.ensures c.put.ensures).0; buffer_after = (put_five c.args.buffer.now c.args.at _ _ _ _ _ c.put-a.new.buffer c.put_decimal-b.new.buffer c.put-c.new.buffer c.put_decimal-d.new.buffer c.put.new.buffer _ _ _ _ _ c.requires c.put-a.ensures c.put_decimal-b.ensures c.put-c.ensures c.put_decimal-d.ensures c.put.ensures).1 }

@@ -26,4 +26,4 @@ put-requires c = omega (arith, room (goal.at.put-requires c).After-put-arg-1)
 pub returns : goal.returns
 unfolding entry_line hex_text
 returns c =
-    put_three c.args.buffer.now c.args.at _ _ _ c.put-a.new.buffer c.put_hex-b.new.buffer c.put.new.buffer _ _ _ c.requires c.put-a.ensures c.put_hex-b.ensures c.put.ensures
+    record { value = (put_three c.args.buffer.now c.args.at _ _ _ c.put-a.new.buffer c.put_hex-b.new.buffer c.put.new.buffer _ _ _ c.requires c.put-a.ensures c.put_hex-b.ensures c.put.ensures).0; buffer_after = (put_three c.args.buffer.now c.args.at _ _ _ c.put-a.new.buffer c.put_hex-b.new.buffer c.put.new.buffer _ _ _ c.requires c.put-a.ensures c.put_hex-b.ensures c.put.ensures).1 }

@@ -51,15 +51,14 @@ loop-address-smaller c = omega (arith, section_of _ _ _ (step_is (goal.at.loop-a
 
 pub loop-address-preserved : goal.loop-address-preserved
 loop-address-preserved c =
-    let g = c.step-1.given.0 in
     let e = lines_section _ c.args.table.now c.loop-address.at (step_is (goal.at.loop-address-preserved c).In-Section) in
     let n = simp length-append at (ap length e) in
-    let more = section_lines (read_on c.args.order c.args.table.now g.1.1.1.0).sections in
+    let more = section_lines (read_on c.args.order c.args.table.now c.in-Section.next).sections in
     record {
       whole = read_next _ _ _ (step_is (goal.at.loop-address-preserved c).In-Section) c.loop-address.invariant.whole;
       same = c.put_section-to.auto.buffer ∙ c.loop-address.invariant.same;
       place = omega (arith, n);
       rest = c.loop-address.invariant.rest ∙ ap (over c.loop-address.buffer c.loop-address.to) e
-          ∙ sym (over_over c.loop-address.buffer c.loop-address.to (section_line g.0 g.1.0) (omega (arith, c.requires, n)) more c.put_section-to.result c.put_section-to.ensures.0)
+          ∙ sym (over_over c.loop-address.buffer c.loop-address.to (section_line c.in-Section.address c.in-Section.size) (omega (arith, c.requires, n)) more c.put_section-to.result c.put_section-to.ensures.0)
           ∙ ap (λ (x : List ℕ). over x c.put_section-to.result more) (sym c.put_section-to.ensures.1);
     }

@@ -17,10 +17,7 @@ slice_bounds-result-end c =
 pub returns-then-is_newer : goal.returns-then-is_newer
 returns-then-is_newer c =
     let r = c.find-found.result in
-    let yes = sym c.is_newer.ensures ∙ c.if-is_newer.true in (
-      part_lent r _ _ _ _ c.find-found.ensures (chosen_newer r c.args.older.now c.args.newer.now yes),
-      start_lent r _ _ _ _ _ c.find-found.ensures (chosen_newer r c.args.older.ptr c.args.newer.ptr yes) (omega arith),
-    )
+    let yes = sym c.is_newer.ensures ∙ c.if-is_newer.true in record { result_value = part_lent r _ _ _ _ c.find-found.ensures (chosen_newer r c.args.older.now c.args.newer.now yes); ref_ptr_value = start_lent r _ _ _ _ _ c.find-found.ensures (chosen_newer r c.args.older.ref_ptr c.args.newer.ref_ptr yes) (omega arith) }
 
 pub slice_bounds-result-end-2 : goal.slice_bounds-result-end-2
 slice_bounds-result-end-2 c =
@@ -30,7 +27,4 @@ slice_bounds-result-end-2 c =
 pub returns : goal.returns
 returns c =
     let r = c.find-found.result in
-    let no = sym c.is_newer.ensures ∙ c.if-is_newer.false in (
-      part_lent r _ _ _ _ c.find-found.ensures (chosen_older r c.args.older.now c.args.newer.now no),
-      start_lent r _ _ _ _ _ c.find-found.ensures (chosen_older r c.args.older.ptr c.args.newer.ptr no) (omega arith),
-    )
+    let no = sym c.is_newer.ensures ∙ c.if-is_newer.false in record { result_value = part_lent r _ _ _ _ c.find-found.ensures (chosen_older r c.args.older.now c.args.newer.now no); ref_ptr_value = start_lent r _ _ _ _ _ c.find-found.ensures (chosen_older r c.args.older.ref_ptr c.args.newer.ref_ptr no) (omega arith) }

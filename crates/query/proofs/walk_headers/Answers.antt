@@ -47,4 +47,4 @@ loop-first-smaller c = omega (arith, section_of _ _ _ (step_is (goal.at.loop-fir
 pub loop-first-preserved : goal.loop-first-preserved
 loop-first-preserved c =
     let i = section_of _ _ _ (step_is (goal.at.loop-first-preserved c).In-Section) in
-    record { within = i.within; few = omega arith; is = c.loop-first.invariant.is ∙ walk_section _ _ _ _ _ _ (step_is (goal.at.loop-first-preserved c).In-Section) ∙ rw (c.latest-hit.ensures, c.hit_in_lem.ensures) refl }
+    record { within = i.within; few = omega arith; is = c.loop-first.invariant.is ∙ walk_section _ _ _ _ _ _ (step_is (goal.at.loop-first-preserved c).In-Section) ∙ rw (c.latest-hit.ensures, c.hit_in.ensures) refl }

@@ -15,54 +15,56 @@ use Rattle.rescue.proofs.WholeRunLaws.{Front, run_front}
 use Rattle.rescue.proofs.AnswerLaws.{table_long, entry_cut, result_long, output_short, rescue_done, output_kept, output_rescued}
 use borrow.Author.Rules.{rules}
 use Rattle.rescue.proofs.rescue.Goals as goal
-use Rattle.rescue.proofs.rescue.Goals.{After-struct_known-1}
+use Rattle.rescue.proofs.rescue.Goals.{After-whole_run-run}
 
 pub returns-then-table-gt-TABLE_LIMIT : goal.returns-then-table-gt-TABLE_LIMIT
 returns-then-table-gt-TABLE_LIMIT c =
-    let e = table_long c.args.order c.args.table.now (length c.args.output.now) (omega (arith, c.if-table-gt-TABLE_LIMIT.true)) in
-    (c.refused.ensures ∙ e, output_kept _ _ _ _ e (λ z. omega arith))
+    let e = table_long c.args.order c.args.table.now (length c.args.output.now) (omega (arith, c.if-table-gt-TABLE_LIMIT.true)) in record { value = c.refused.ensures ∙ e; output_after = output_kept _ _ _ _ e (λ z. omega arith) }
 
 pub returns-then-table-lt4 : goal.returns-then-table-lt4
 returns-then-table-lt4 c =
     let e = entry_cut c.args.order c.args.table.now (length c.args.output.now)
-    (omega (arith, c.if-table-gt-TABLE_LIMIT.false)) (omega (arith, c.if-table-lt4.true)) in
-    (c.refused-then-table-lt4.ensures ∙ e, output_kept _ _ _ _ e (λ z. omega arith))
+    (omega (arith, c.if-table-gt-TABLE_LIMIT.false)) (omega (arith, c.if-table-lt4.true)) in record { value = c.refused-then-table-lt4.ensures ∙ e; output_after = output_kept _ _ _ _ e (λ z. omega arith) }
 
-ready : (c : After-struct_known-1) → Ready c.args.order c.args.table.now c.whole_run-run.result
+-- what the tests before the run and the run itself say
+record Ready (o : ByteOrder) (t : List ℕ) (r : Run) : Type 0 where
+  short : length t ≤ table_limit
+  long : 4 ≤ length t
+  front : Front o t r
+
+ready : (c : After-whole_run-run) → Ready c.args.order c.args.table.now c.whole_run-run.result
 ready c =
     let long : 4 ≤ length c.args.table.now = omega (arith, c.if-table-lt4.false) in
     record {
       short = omega (arith, c.if-table-gt-TABLE_LIMIT.false);
       long = long;
-      front = run_front _ _ (λ i. (c.shared_slice_known-1.given i).fits) long _ c.whole_run-run.ensures;
+      front = run_front _ _ (λ i. (c.type_inv.table i).fits) long _ c.whole_run-run.ensures;
     }
 
 pub overflow_add-length : goal.overflow_add-length
-overflow_add-length c = let f = ready (goal.at.overflow_add-length c).After-struct_known-1 in omega (arith, f.front.within, f.short)
+overflow_add-length c = let f = ready (goal.at.overflow_add-length c).After-whole_run-run in omega (arith, f.front.within, f.short)
 
 pub returns-then-length-gt-TABLE_LIMIT : goal.returns-then-length-gt-TABLE_LIMIT
 returns-then-length-gt-TABLE_LIMIT c =
-    let f = ready (goal.at.returns-then-length-gt-TABLE_LIMIT c).After-struct_known-1 in
+    let f = ready (goal.at.returns-then-length-gt-TABLE_LIMIT c).After-whole_run-run in
     let e = result_long c.args.order c.args.table.now (length c.args.output.now) f.short f.long
-    (omega (arith, f.front.size, c.if-length-gt-TABLE_LIMIT.true)) in
-    (c.refused-then-length-gt-TABLE_LIMIT.ensures ∙ e, output_kept _ _ _ _ e (λ z. omega arith))
+    (omega (arith, f.front.size, c.if-length-gt-TABLE_LIMIT.true)) in record { value = c.refused-then-length-gt-TABLE_LIMIT.ensures ∙ e; output_after = output_kept _ _ _ _ e (λ z. omega arith) }
 
 pub returns-then-output-length : goal.returns-then-output-length
 returns-then-output-length c =
-    let f = ready (goal.at.returns-then-output-length c).After-struct_known-1 in
+    let f = ready (goal.at.returns-then-output-length c).After-whole_run-run in
     let e = output_short c.args.order c.args.table.now (length c.args.output.now) f.short f.long
-    (omega (arith, f.front.size, c.if-length-gt-TABLE_LIMIT.false)) (omega (arith, f.front.size, c.if-output-length.true)) in
-    (c.refused-then-output-length.ensures ∙ e, output_kept _ _ _ _ e (λ z. omega arith))
+    (omega (arith, f.front.size, c.if-length-gt-TABLE_LIMIT.false)) (omega (arith, f.front.size, c.if-output-length.true)) in record { value = c.refused-then-output-length.ensures ∙ e; output_after = output_kept _ _ _ _ e (λ z. omega arith) }
 
 pub slice_bounds-write_rescued-end : goal.slice_bounds-write_rescued-end
 slice_bounds-write_rescued-end c =
-    let t = None in
-    sym (length-take-le _ t (omega (arith, (ready (goal.at.slice_bounds-write_rescued-end c).After-whole_run-run).front.within)))
+    let f = ready (goal.at.slice_bounds-write_rescued-end c).After-whole_run-run in
+    sym (length-take-le _ c.args.table.now (omega (arith, f.front.within)))
 
 pub write_rescued-requires : goal.write_rescued-requires
 write_rescued-requires c =
-    let t = None in
-    omega (arith, length-take-le c.whole_run.result.end t (ready (goal.at.write_rescued-requires c).After-whole_run-run).front.within, c.if4.false)
+    let f = ready (goal.at.write_rescued-requires c).After-whole_run-run in
+    omega (arith, length-take-le c.whole_run-run.result.end c.args.table.now f.front.within, c.if-output-length.false)
 
 pub overflow_sub-unused : goal.overflow_sub-unused
 overflow_sub-unused c =
@@ -71,16 +73,19 @@ overflow_sub-unused c =
 
 pub returns : goal.returns
 returns c =
-    let s = None in
-    let o = s.args.order in
-    let t = s.args.table.now in
-    let out = s.args.output.now in
-    let f = (ready (goal.at.returns c).After-whole_run-run).front in
+    let o = c.args.order in
+    let t = c.args.table.now in
+    let out = c.args.output.now in
+    let r = ready (goal.at.returns c).After-whole_run-run in
+    let f = r.front in
     let n : length t - c.used.result ≡ length t - used_bytes o t = ap (λ (n : ℕ). length t - n) (c.used.ensures ∙ f.used) in
-    let e = rescue_done o t (length out) (ready (goal.at.returns c).After-whole_run-run).short (ready (goal.at.returns c).After-whole_run-run).long (omega (arith, f.size, c.if3.false)) (omega (arith, f.size, c.if4.false)) in (
-      (λ i. record { number = 0; place = 0; length = sym f.size i; sections = f.count i; unused = n i; added = f.added i }) ∙ e,
-      c.write_rescued.ensures
+    let e = rescue_done o t (length out) r.short r.long
+        (omega (arith, f.size, c.if-length-gt-TABLE_LIMIT.false)) (omega (arith, f.size, c.if-output-length.false)) in
+    record {
+      value = (λ i. record { number = 0; place = 0; length = sym f.size i; sections = f.count i; unused = n i; added = f.added i }) ∙ e;
+      output_after =
+          c.write_rescued.ensures
           ∙ ap (over out 0) (sym f.is)
           ∙ over_front out (rescued o t)
-          ∙ output_rescued o t out (done_answer o t) e refl,
-    )
+          ∙ output_rescued o t out (done_answer o t) e refl;
+    }

@@ -32,8 +32,7 @@ returns-in_default c =
     rw (c.loop-next.invariant.run, run_fault _ _ _ _ e, ne_eqb _ _ (fault_number _ _ _ e)) refl
 
 -- a turn that finds a section
-step_is : (c : In-Section) → let s = c.step-1.given.0 in
-    step_at c.args.order c.args.table.now c.loop-next.at ≡ Section s.0 s.1.0 s.1.1.0 s.1.1.1.0
+step_is : (c : In-Section) → step_at c.args.order c.args.table.now c.loop-next.at ≡ Section c.in-Section.address c.in-Section.size c.in-Section.start c.in-Section.next
 step_is c = sym c.step_at-step.ensures ∙ c.in-Section.is
 
 pub loop-next-smaller : goal.loop-next-smaller
