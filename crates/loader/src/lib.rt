@@ -1,4 +1,6 @@
 // Judging a boot table under a region map, and loading it into memory.
+#![tactic(auto)]
+
 ghost use Rattle.std.specs.Prelude.{◌≡◌, length};
 ghost use Rattle.words.specs.Refusal.{stored_twice_number};
 ghost use Rattle.loader.specs.Load.{refused, judge_answer, load_answer, load_memory};

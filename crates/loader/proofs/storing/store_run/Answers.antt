@@ -1,0 +1,28 @@
+-- `loader::storing::store_run`: the part of memory from the run's place on gets the run's bytes.
+use Prim.Native.Nat.{◌-◌, ◌≤◌}
+use mathlib.Core.Path.{sym}
+use native.Mathlib.Omega.{arith}
+use lib.Seq.{length-take-le}
+use Rattle.words.proofs.RunLaws.{lent_back}
+use Rattle.loader.proofs.StoreLaws.{run_fits}
+use borrow.Author.Rules.{rules}
+use Rattle.loader.proofs.storing.store_run.Goals as goal
+use Rattle.loader.proofs.storing.store_run.Goals.{After-lower-count}
+
+pub slice_bounds-copy-end : goal.slice_bounds-copy-end
+slice_bounds-copy-end c = sym (length-take-le _ _ (omega arith))
+
+-- no more than the region has from the address on
+few : (c : After-lower-count) → c.lower-count.result ≤ c.args.region.end - c.args.address
+few c = omega arith
+
+pub copy-requires : goal.copy-requires
+copy-requires c =
+    run_fits c.args.memory.now c.args.body.now c.args.region c.args.address _
+    c.requires.first_le_address.0 (few (goal.at.copy-requires c).After-lower-count) c.requires.first_in_bounds
+
+pub returns : goal.returns
+returns c = record {
+  result_nonzero = (omega arith, omega arith, omega arith);
+  memory_after = lent_back c.args.memory.now _ c.copy.new.part _ (omega arith) c.copy.ensures;
+}

@@ -1,0 +1,37 @@
+-- `loader::storing::store_sections`: the sections before the offset are stored, and storing those from it on comes to storing all.
+use Prim.Native.Nat.{ℕ, ◌-◌}
+use mathlib.Core.Path.{◌≡◌, refl, sym, ◌∙◌, ap}
+use mathlib.Core.List.{List}
+use native.Mathlib.Omega.{arith}
+use borrow.Author.Rules.{rules}
+use lib.ListN.{length}
+use Rattle.words.specs.declared.ByteOrder.{ByteOrder}
+use Rattle.boot_table.specs.declared.Step.TheVariants.{Section}
+use Rattle.boot_table.specs.Table.{Reading, step_at, reading, read_on}
+use Rattle.boot_table.specs.Valid.{All}
+use Rattle.boot_table.proofs.StepLaws.{section_of}
+use Rattle.region_map.specs.declared.places.Region.{Region}
+use Rattle.region_map.specs.Search.{Places}
+use Rattle.region_map.specs.Map.{closed_from}
+use Rattle.boot_table.proofs.ReadLaws.{read_else, read_next}
+use Rattle.boot_table.proofs.FormLaws.{well_read}
+use Rattle.loader.specs.Store.{store_bytes, store_all}
+use Rattle.loader.specs.Load.{Opens}
+use Rattle.loader.proofs.RuleLaws.{opens_next}
+use Rattle.loader.proofs.StoreLaws.{lent_body, lent_length, walk_store, walk_stored}
+use Rattle.loader.proofs.AnswerLaws.{table_only}
+use Rattle.loader.proofs.storing.store_sections.Given as goal
+
+-- the table is whole and open from the offset on, the sections before it are stored, and the region has its places
+pub record Stored (o : ByteOrder) (m t mem₀ mem : List ℕ) (at : ℕ) (r : Region) : Type 0 where
+  pub whole : (read_on o t at).fault ≡ 0
+  pub opens : All (Opens m) (read_on o t at).sections
+  pub same : length mem ≡ length mem₀
+  pub rest : store_all m mem₀ (reading o t).sections ≡ store_all m mem (read_on o t at).sections
+  pub places : Places m r
+
+abbrev pub invariant-loop-address : goal.invariant-loop-address
+invariant-loop-address l = Stored l.order l.map l.table l.initial.memory l.memory l.at l.region
+
+abbrev pub decreases-loop-address : goal.decreases-loop-address
+decreases-loop-address l = length l.table - l.at
