@@ -147,19 +147,23 @@ text_some o t =
 
 -- ---- what listing answers and leaves
 
+-- the answer n and the buffer b are those of listing t into out
+abbrev pub Answered : ByteOrder → List ℕ → List ℕ → ℕ → List ℕ → Type 0
+Answered o t out n b = record { value : n ≡ list_length o t (length out); buffer_after : b ≡ list_output o t out }
+
 module _ (o : ByteOrder) (t out : List ℕ) where
   -- a buffer that is too short is left as it was
-  pub list_none : length out < text_bound t → (0 ≡ list_length o t (length out)) × (out ≡ list_output o t out)
+  pub list_none : length out < text_bound t → Answered o t out 0 out
   unfolding list_length list_output
-  list_none h = (simp (lt-ltb _ _ h), simp (lt-ltb _ _ h))
+  list_none h = record { value = simp (lt-ltb _ _ h); buffer_after = simp (lt-ltb _ _ h) }
 
   -- any other gets the text at its front
-  pub list_put : text_bound t ≤ length out → (to : ℕ) (b : List ℕ) → Put out 0 (text o t) to b → (to ≡ list_length o t (length out)) × (b ≡ list_output o t out)
+  pub list_put : text_bound t ≤ length out → (to : ℕ) (b : List ℕ) → Put out 0 (text o t) to b → Answered o t out to b
   unfolding list_length list_output
-  list_put h to b p = (p.0 ∙ simp (zero-add, le-ltb _ _ h), p.1 ∙ simp (le-ltb _ _ h))
+  list_put h to b p = record { value = p.value ∙ simp (zero-add, le-ltb _ _ h); buffer_after = p.buffer_after ∙ simp (le-ltb _ _ h) }
 
   pub list_kept : length out < text_bound t → list_output o t out ≡ out
-  list_kept h = sym (list_none h).1
+  list_kept h = sym (list_none h).buffer_after
 
   module _ (h : text_bound t ≤ length out) where
     -- the answer is the length of the text

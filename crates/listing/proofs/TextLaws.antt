@@ -70,14 +70,17 @@ decimal_few j n a h = in_few 20 j n a h
 
 -- what putting a text leaves: the offset after it, and the buffer with the text in it
 abbrev pub Put : List ℕ → ℕ → List ℕ → ℕ → List ℕ → Type 0
-Put d at x to b = (to ≡ at + length x) × (b ≡ over d at x)
+Put d at x to b = record { value : to ≡ at + length x; buffer_after : b ≡ over d at x }
 
 -- a text and then another are one text
 pub put_two : (d : List ℕ) (at : ℕ) (x y : List ℕ) (b : List ℕ) (to : ℕ) (e : List ℕ) (end : ℕ) → at + length (x ++ y) ≤ length d
     → Put d at x to b → Put b to y end e → Put d at (x ++ y) end e
 put_two d at x y b to e end fits p q =
     let l = length-append x y in
-    (omega arith, q.1 ∙ ap (λ (o : List ℕ). over o to y) p.1 ∙ over_over d at x (omega arith) y to p.0)
+    record {
+      value = omega arith;
+      buffer_after = q.buffer_after ∙ ap (λ (o : List ℕ). over o to y) p.buffer_after ∙ over_over d at x (omega arith) y to p.value;
+    }
 
 -- three texts
 pub put_three : (d : List ℕ) (at : ℕ) (x y z b1 b2 b3 : List ℕ) (o1 o2 o3 : ℕ) → at + length (x ++ y ++ z) ≤ length d

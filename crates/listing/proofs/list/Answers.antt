@@ -15,16 +15,15 @@ use Rattle.listing.proofs.list.Goals as goal
 use Rattle.listing.proofs.list.Goals.{Else-form-ne0}
 
 pub returns-then-buffer-lt9 : goal.returns-then-buffer-lt9
-returns-then-buffer-lt9 c =
-    record { value = (list_none _ c.args.table.now c.args.buffer.now (omega (arith, bound_long c.args.table.now (omega arith)))).0; buffer_after = (list_none _ c.args.table.now c.args.buffer.now (omega (arith, bound_long c.args.table.now (omega arith)))).1 }
+returns-then-buffer-lt9 c = list_none _ c.args.table.now c.args.buffer.now (omega (arith, bound_long c.args.table.now (omega arith)))
 
 pub returns-then-table-gt-LIST_LIMIT : goal.returns-then-table-gt-LIST_LIMIT
 returns-then-table-gt-LIST_LIMIT c =
-    let t = c.args.table.now in record { value = (list_put _ t c.args.buffer.now (omega (arith, bound_long t (omega arith))) _ _ (rw (text_long _ t (omega arith)) c.put.ensures)).0; buffer_after = (list_put _ t c.args.buffer.now (omega (arith, bound_long t (omega arith))) _ _ (rw (text_long _ t (omega arith)) c.put.ensures)).1 }
+    let t = c.args.table.now in
+    list_put _ t c.args.buffer.now (omega (arith, bound_long t (omega arith))) _ _ (rw (text_long _ t (omega arith)) c.put.ensures)
 
 pub returns-then-buffer-table : goal.returns-then-buffer-table
-returns-then-buffer-table c =
-    record { value = (list_none _ c.args.table.now c.args.buffer.now (omega (arith, bound_within c.args.table.now (omega arith)))).0; buffer_after = (list_none _ c.args.table.now c.args.buffer.now (omega (arith, bound_within c.args.table.now (omega arith)))).1 }
+returns-then-buffer-table c = list_none _ c.args.table.now c.args.buffer.now (omega (arith, bound_within c.args.table.now (omega arith)))
 
 pub put_refused-requires : goal.put_refused-requires
 put_refused-requires c =
@@ -32,22 +31,22 @@ put_refused-requires c =
 
 pub returns-then-form-ne0 : goal.returns-then-form-ne0
 returns-then-form-ne0 c =
-    let t = c.args.table.now in record { value = (list_put _ t c.args.buffer.now (omega (arith, bound_within t (omega arith))) _ _ (rw (text_refused _ t (omega arith) c.form_of-form.result c.form_of-form.ensures c.if-form-ne0.true) c.Put-refused.ensures)).0; buffer_after = (list_put _ t c.args.buffer.now (omega (arith, bound_within t (omega arith))) _ _ (rw (text_refused _ t (omega arith) c.form_of-form.result c.form_of-form.ensures c.if-form-ne0.true) c.Put-refused.ensures)).1 }
+    let t = c.args.table.now in
+    list_put _ t c.args.buffer.now (omega (arith, bound_within t (omega arith))) _ _
+    (rw (text_refused _ t (omega arith) c.form_of-form.result c.form_of-form.ensures c.if-form-ne0.true) c.put_refused.ensures)
 
 -- a table that is listed: it is within the limit and well-formed, and the buffer has room for its text, line by line
 module _ (c : Else-form-ne0) where
-  abbrev given : tie.Start
-  given = <<Start>>
   abbrev form : Form
   form = c.form_of-form.result
-  short : length given.args.table.now ≤ list_limit
+  short : length c.args.table.now ≤ list_limit
   short = omega arith
-  well : WellFormed given.args.order given.args.table.now
-  well = listed_well _ given.args.table.now short form c.form_of-form.ensures c.if-form-ne0.false
-  room : 21 + length (section_lines (reading given.args.order given.args.table.now).sections) + length (decimal_text form.sections) + length (decimal_text form.bytes) ≤ length given.args.buffer.now
-  room = omega (arith, listed_room _ given.args.table.now short form c.form_of-form.ensures c.if-form-ne0.false)
-  enough : text_bound given.args.table.now ≤ length given.args.buffer.now
-  enough = omega (arith, bound_within given.args.table.now short)
+  well : WellFormed c.args.order c.args.table.now
+  well = listed_well _ c.args.table.now short form c.form_of-form.ensures c.if-form-ne0.false
+  room : 21 + length (section_lines (reading c.args.order c.args.table.now).sections) + length (decimal_text form.sections) + length (decimal_text form.bytes) ≤ length c.args.buffer.now
+  room = omega (arith, listed_room _ c.args.table.now short form c.form_of-form.ensures c.if-form-ne0.false)
+  enough : text_bound c.args.table.now ≤ length c.args.buffer.now
+  enough = omega (arith, bound_within c.args.table.now short)
 
 pub entry_of-requires : goal.entry_of-requires
 entry_of-requires c = omega (arith, well_long _ _ (well (goal.at.entry_of-requires c).Else-form-ne0))
@@ -57,14 +56,25 @@ put_entry-a-requires c = omega (arith, length_entry c.entry_of.result, room (goa
 
 pub put_sections-b-requires : goal.put_sections-b-requires
 put_sections-b-requires c =
-    (well (goal.at.put_sections-b-requires c).Else-form-ne0, omega (arith, length_entry c.entry_of.result, room (goal.at.put_sections-b-requires c).Else-form-ne0))
+    record {
+      well_formed = well (goal.at.put_sections-b-requires c).Else-form-ne0;
+      table_in_bounds = omega (arith, length_entry c.entry_of.result, room (goal.at.put_sections-b-requires c).Else-form-ne0);
+    }
 
 pub put_end-requires : goal.put_end-requires
 put_end-requires c = rw length_end (omega (arith, length_entry c.entry_of.result, room (goal.at.put_end-requires c).Else-form-ne0))
 
 pub returns : goal.returns
 returns c =
-    let o = (given (goal.at.returns c).Else-form-ne0).args.order in
-    let t = (given (goal.at.returns c).Else-form-ne0).args.table.now in
-    let d = (given (goal.at.returns c).Else-form-ne0).args.buffer.now in
-    let e = text_listed o t (short (goal.at.returns c).Else-form-ne0) (form (goal.at.returns c).Else-form-ne0) c.form_of-form.ensures c.if-form-ne0.false in record { value = (list_put o t d (enough (goal.at.returns c).Else-form-ne0) c.put_end.result c.put_end.new.buffer (rw e (put_three d 0 (entry_line (entry_of o t)) (section_lines (reading o t).sections) (end_line (form (goal.at.returns c).Else-form-ne0).sections (form (goal.at.returns c).Else-form-ne0).bytes) c.put_entry-a.new.buffer c.put_sections-b.new.buffer c.put_end.new.buffer c.put_entry-a.result c.put_sections-b.result c.put_end.result (rw (← e) (omega (arith, text_bound_lem o t, enough (goal.at.returns c).Else-form-ne0))) (rw c.entry_of.ensures at c.put_entry-a.ensures) c.put_sections-b.ensures c.put_end.ensures))).0; buffer_after = (list_put o t d (enough (goal.at.returns c).Else-form-ne0) c.put_end.result c.put_end.new.buffer (rw e (put_three d 0 (entry_line (entry_of o t)) (section_lines (reading o t).sections) (end_line (form (goal.at.returns c).Else-form-ne0).sections (form (goal.at.returns c).Else-form-ne0).bytes) c.put_entry-a.new.buffer c.put_sections-b.new.buffer c.put_end.new.buffer c.put_entry-a.result c.put_sections-b.result c.put_end.result (rw (← e) (omega (arith, text_bound_lem o t, enough (goal.at.returns c).Else-form-ne0))) (rw c.entry_of.ensures at c.put_entry-a.ensures) c.put_sections-b.ensures c.put_end.ensures))).1 }
+    let k = (goal.at.returns c).Else-form-ne0 in
+    let o = c.args.order in
+    let t = c.args.table.now in
+    let d = c.args.buffer.now in
+    let f = c.form_of-form.result in
+    let e = text_listed o t (short k) f c.form_of-form.ensures c.if-form-ne0.false in
+    list_put o t d (enough k) c.put_end.result c.put_end.new.buffer
+    (rw e
+    (put_three d 0 (entry_line (entry_of o t)) (section_lines (reading o t).sections) (end_line f.sections f.bytes)
+    c.put_entry-a.new.buffer c.put_sections-b.new.buffer c.put_end.new.buffer c.put_entry-a.result c.put_sections-b.result c.put_end.result
+    (rw (← e) (omega (arith, text_bound_lem o t, enough k)))
+    (rw c.entry_of.ensures at c.put_entry-a.ensures) c.put_sections-b.ensures c.put_end.ensures))

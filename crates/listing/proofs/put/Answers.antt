@@ -7,4 +7,7 @@ use Rattle.listing.proofs.put.Goals as goal
 
 pub returns : goal.returns
 returns c =
-    record { value = refl; buffer_after = lent_back c.args.buffer.now c.args.bytes.now c.copy.new.part c.args.at (omega arith) c.copy.ensures }
+    record {
+      value = refl;
+      buffer_after = lent_back c.args.buffer.now c.args.bytes.now c.copy.new.part c.args.at (omega arith) c.copy.ensures;
+    }

@@ -15,21 +15,21 @@ room : (c : Start) → c.args.at + (6 + length (decimal_text c.args.sections) + 
 room c = omega (arith, length_end c.args.sections c.args.bytes, c.requires)
 
 pub put-a-requires : goal.put-a-requires
-put-a-requires c = omega (arith, room (goal.at.put-a-requires c).After-slice_known-1)
+put-a-requires c = omega (arith, room (goal.at.put-a-requires c).Start)
 
 pub put_decimal-b-requires : goal.put_decimal-b-requires
-put_decimal-b-requires c = omega (arith, room (goal.at.put_decimal-b-requires c).After-slice_known-1)
+put_decimal-b-requires c = omega (arith, room (goal.at.put_decimal-b-requires c).Start)
 
 pub put-c-requires : goal.put-c-requires
-put-c-requires c = omega (arith, room (goal.at.put-c-requires c).After-put-arg-1)
+put-c-requires c = omega (arith, room (goal.at.put-c-requires c).Start)
 
 pub put_decimal-d-requires : goal.put_decimal-d-requires
-put_decimal-d-requires c = omega (arith, room (goal.at.put_decimal-d-requires c).After-put-arg-1)
+put_decimal-d-requires c = omega (arith, room (goal.at.put_decimal-d-requires c).Start)
 
 pub put-requires : goal.put-requires
-put-requires c = omega (arith, room (goal.at.put-requires c).After-put-arg-2-1)
+put-requires c = omega (arith, room (goal.at.put-requires c).Start)
 
 pub returns : goal.returns
 unfolding end_line
 returns c =
-    record { value = (put_five c.args.buffer.now c.args.at _ _ _ _ _ c.put-a.new.buffer c.put_decimal-b.new.buffer c.put-c.new.buffer c.put_decimal-d.new.buffer c.put.new.buffer _ _ _ _ _ c.requires c.put-a.ensures c.put_decimal-b.ensures c.put-c.ensures c.put_decimal-d.ensures c.put.ensures).0; buffer_after = (put_five c.args.buffer.now c.args.at _ _ _ _ _ c.put-a.new.buffer c.put_decimal-b.new.buffer c.put-c.new.buffer c.put_decimal-d.new.buffer c.put.new.buffer _ _ _ _ _ c.requires c.put-a.ensures c.put_decimal-b.ensures c.put-c.ensures c.put_decimal-d.ensures c.put.ensures).1 }
+    put_five c.args.buffer.now c.args.at _ _ _ _ _ c.put-a.new.buffer c.put_decimal-b.new.buffer c.put-c.new.buffer c.put_decimal-d.new.buffer c.put.new.buffer _ _ _ _ _ c.requires c.put-a.ensures c.put_decimal-b.ensures c.put-c.ensures c.put_decimal-d.ensures c.put.ensures

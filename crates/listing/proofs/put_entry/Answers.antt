@@ -15,15 +15,15 @@ room : (c : Start) → c.args.at + (15) ≤ length c.args.buffer.now
 room c = omega (arith, length_entry c.args.entry, c.requires)
 
 pub put-a-requires : goal.put-a-requires
-put-a-requires c = omega (arith, room (goal.at.put-a-requires c).After-slice_known-1)
+put-a-requires c = omega (arith, room (goal.at.put-a-requires c).Start)
 
 pub put_hex-b-requires : goal.put_hex-b-requires
-put_hex-b-requires c = omega (arith, room (goal.at.put_hex-b-requires c).After-slice_known-1)
+put_hex-b-requires c = omega (arith, room (goal.at.put_hex-b-requires c).Start)
 
 pub put-requires : goal.put-requires
-put-requires c = omega (arith, room (goal.at.put-requires c).After-put-arg-1)
+put-requires c = omega (arith, room (goal.at.put-requires c).Start)
 
 pub returns : goal.returns
 unfolding entry_line hex_text
 returns c =
-    record { value = (put_three c.args.buffer.now c.args.at _ _ _ c.put-a.new.buffer c.put_hex-b.new.buffer c.put.new.buffer _ _ _ c.requires c.put-a.ensures c.put_hex-b.ensures c.put.ensures).0; buffer_after = (put_three c.args.buffer.now c.args.at _ _ _ c.put-a.new.buffer c.put_hex-b.new.buffer c.put.new.buffer _ _ _ c.requires c.put-a.ensures c.put_hex-b.ensures c.put.ensures).1 }
+    put_three c.args.buffer.now c.args.at _ _ _ c.put-a.new.buffer c.put_hex-b.new.buffer c.put.new.buffer _ _ _ c.requires c.put-a.ensures c.put_hex-b.ensures c.put.ensures

@@ -6,4 +6,4 @@ use Rattle.listing.proofs.put_hex.Goals as goal
 pub returns : goal.returns
 unfolding hex_text
 returns c =
-    record { value = (rw (c.digit.ensures, c.digit-2.ensures, c.digit-3.ensures, c.digit-4.ensures, c.digit-5.ensures, c.digit-6.ensures, c.digit-7.ensures, c.digit-8.ensures) at c.put.ensures).0; buffer_after = (rw (c.digit.ensures, c.digit-2.ensures, c.digit-3.ensures, c.digit-4.ensures, c.digit-5.ensures, c.digit-6.ensures, c.digit-7.ensures, c.digit-8.ensures) at c.put.ensures).1 }
+    rw (c.digit.ensures, c.digit-2.ensures, c.digit-3.ensures, c.digit-4.ensures, c.digit-5.ensures, c.digit-6.ensures, c.digit-7.ensures, c.digit-8.ensures) at c.put.ensures

@@ -15,19 +15,19 @@ room : (c : Start) → c.args.at + (18 + length (decimal_text c.args.size)) ≤ 
 room c = omega (arith, length_section c.args.address c.args.size, c.requires)
 
 pub put-a-requires : goal.put-a-requires
-put-a-requires c = omega (arith, room (goal.at.put-a-requires c).After-slice_known-1)
+put-a-requires c = omega (arith, room (goal.at.put-a-requires c).Start)
 
 pub put_hex-b-requires : goal.put_hex-b-requires
-put_hex-b-requires c = omega (arith, room (goal.at.put_hex-b-requires c).After-slice_known-1)
+put_hex-b-requires c = omega (arith, room (goal.at.put_hex-b-requires c).Start)
 
 pub put-c-requires : goal.put-c-requires
-put-c-requires c = omega (arith, room (goal.at.put-c-requires c).After-put-arg-1)
+put-c-requires c = omega (arith, room (goal.at.put-c-requires c).Start)
 
 pub put_decimal-d-requires : goal.put_decimal-d-requires
-put_decimal-d-requires c = omega (arith, room (goal.at.put_decimal-d-requires c).After-put-arg-1)
+put_decimal-d-requires c = omega (arith, room (goal.at.put_decimal-d-requires c).Start)
 
 pub put-requires : goal.put-requires
-put-requires c = omega (arith, room (goal.at.put-requires c).After-put-arg-2-1)
+put-requires c = omega (arith, room (goal.at.put-requires c).Start)
 
 pub returns : goal.returns
 unfolding section_line hex_text

@@ -20,7 +20,7 @@ use Rattle.listing.proofs.put_sections.Goals.{In-Section}
 
 pub loop-address-init : goal.loop-address-init
 loop-address-init c =
-    let w = well_read _ c.args.table.now c.requires.0 in
+    let w = well_read _ c.args.table.now c.requires.well_formed in
     record {
       whole = w.1;
       same = refl;
@@ -35,7 +35,10 @@ pub returns-in_default : goal.returns-in_default
 returns-in_default c =
     let t = c.args.table.now in
     let e = lines_end _ t c.loop-address.at (read_else _ _ _ c.step_at-step.result c.step_at-step.ensures c.in_default.not-Section c.loop-address.invariant.whole) in
-    (omega (arith, ap length e), sym (c.loop-address.invariant.rest ∙ ap (over c.loop-address.buffer c.loop-address.to) e ∙ over_none _ _))
+    record {
+      value = omega (arith, ap length e);
+      buffer_after = sym (c.loop-address.invariant.rest ∙ ap (over c.loop-address.buffer c.loop-address.to) e ∙ over_none _ _);
+    }
 
 -- a turn that finds a section
 step_is : (c : In-Section) → step_at c.args.order c.args.table.now c.loop-address.at
@@ -59,6 +62,6 @@ loop-address-preserved c =
       same = c.put_section-to.auto.buffer ∙ c.loop-address.invariant.same;
       place = omega (arith, n);
       rest = c.loop-address.invariant.rest ∙ ap (over c.loop-address.buffer c.loop-address.to) e
-          ∙ sym (over_over c.loop-address.buffer c.loop-address.to (section_line c.in-Section.address c.in-Section.size) (omega (arith, c.requires, n)) more c.put_section-to.result c.put_section-to.ensures.0)
-          ∙ ap (λ (x : List ℕ). over x c.put_section-to.result more) (sym c.put_section-to.ensures.1);
+          ∙ sym (over_over c.loop-address.buffer c.loop-address.to (section_line c.in-Section.address c.in-Section.size) (omega (arith, c.requires, n)) more c.put_section-to.result c.put_section-to.ensures.value)
+          ∙ ap (λ (x : List ℕ). over x c.put_section-to.result more) (sym c.put_section-to.ensures.buffer_after);
     }
