@@ -63,7 +63,7 @@ with_numbers manner v r e = (e, ap answer_numbers e ∙ numbers_are manner v)
 -- ---- a strap from its numbers
 
 -- the strap of a kind with these fields
-unfoldable strap_from : ℕ → List ℕ → Strap
+unfoldable pub strap_from : ℕ → List ℕ → Strap
 strap_from kind f =
     if (eqb kind 0) (Sleep (get_or f 0 0) (eqb (get_or f 1 0) 1) (get_or f 2 0))
     (if (eqb kind 1) (Emif16 (get_or f 0 0) (eqb (get_or f 1 0) 1) (get_or f 2 0))
@@ -88,7 +88,7 @@ strap_back (Ethernet device multiplier connection id clock) = refl
 strap_back (Pcie bar sr clock) = refl
 strap_back (I2cMaster number) = refl
 strap_back (I2cPassive address) = refl
-strap_back (Spi mode fivePin wide select table sr) = rw (byte_bool fivePin, byte_bool wide)
+strap_back (Spi mode five_pin wide select table sr) = rw (byte_bool five_pin, byte_bool wide)
 
 -- straps of one kind with equal fields are the same
 strap_inj : (s t : Strap) → kind_of s ≡ kind_of t → fields_of s ≡ fields_of t → s ≡ t
@@ -134,33 +134,14 @@ pub first_refused : (n p : ℕ) (a b : StrapAnswer) → Refused n p ≡ a → sa
 unfolding same_of
 first_refused n p a b e = ap (λ (x : StrapAnswer). same_of x b) e
 
--- the tag of a strap is its kind's place
-tag_kind : (s : Strap) → tag_of the_type s ≡ kind_of s
-unfolding kind_of
-tag_kind (Sleep sr wait clock) = refl
-tag_kind (Emif16 sr wait clock) = refl
-tag_kind (Link device number clock) = refl
-tag_kind (Ethernet device multiplier connection id clock) = refl
-tag_kind (Pcie bar sr clock) = refl
-tag_kind (I2cMaster number) = refl
-tag_kind (I2cPassive address) = refl
-tag_kind (Spi mode fivePin wide select table sr) = refl
+-- a strap of kind k is made of its fields
+pub of_kind : (t : Strap) (k : ℕ) → kind_of t ≡ k → t ≡ strap_from k (fields_of t)
+of_kind t k e = sym (strap_back t) ∙ ap (λ (n : ℕ). strap_from n (fields_of t)) e
 
--- the kinds other than k
-abbrev pub others : ℕ → List ℕ
-others k = pick (0 ∷ 1 ∷ 2 ∷ 3 ∷ 4 ∷ 5 ∷ 6 ∷ 7 ∷ [])
-  where
-    pick : List ℕ → List ℕ
-    pick [] = []
-    pick (n ∷ ns) = if (eqb n k) (pick ns) (n ∷ pick ns)
-
--- a strap with another kind's tag is not the same
-pub other_kind : (s t : Strap) (k : ℕ) → kind_of s ≡ k → T (not (has_key (others k) k))
-    → OneOf (others k) (tag_of the_type t) → false ≡ same_strap s t
+-- a strap of another kind is not the same
+pub other_kind : (s t : Strap) → (kind_of s ≡ kind_of t → ⊥) → false ≡ same_strap s t
 unfolding same_strap
-other_kind s t k e n o =
-    let d : kind_of s ≡ kind_of t → ⊥ = λ f. miss (others k) k n (subst (λ x. OneOf (others k) x) (tag_kind t ∙ sym f ∙ e) o) in
-    rw (ne_eqb _ _ d)
+other_kind s t d = rw (ne_eqb _ _ d)
 
 -- equal Bools are equal as numbers
 pub byte_beq : (a b : Bool) → eqb (bool_byte a) (bool_byte b) ≡ beq a b

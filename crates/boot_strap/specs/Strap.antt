@@ -121,7 +121,7 @@ kind_of (Ethernet device multiplier connection id clock) = 3
 kind_of (Pcie bar sr clock) = 4
 kind_of (I2cMaster number) = 5
 kind_of (I2cPassive address) = 6
-kind_of (Spi mode fivePin wide select table sr) = 7
+kind_of (Spi mode five_pin wide select table sr) = 7
 
 -- the kind's fields in the table's order; yes is 1 and no is 0
 unfoldable pub fields_of : Strap → List ℕ
@@ -132,7 +132,7 @@ fields_of (Ethernet device multiplier connection id clock) = device ∷ multipli
 fields_of (Pcie bar sr clock) = bar ∷ sr ∷ clock ∷ []
 fields_of (I2cMaster number) = number ∷ []
 fields_of (I2cPassive address) = address ∷ []
-fields_of (Spi mode fivePin wide select table sr) = mode ∷ bool_byte fivePin ∷ bool_byte wide ∷ select ∷ table ∷ sr ∷ []
+fields_of (Spi mode five_pin wide select table sr) = mode ∷ bool_byte five_pin ∷ bool_byte wide ∷ select ∷ table ∷ sr ∷ []
 
 -- the number, the place, and for a strap its kind and fields
 unfoldable pub answer_numbers : StrapAnswer → List ℕ

@@ -5,4 +5,4 @@ use Rattle.boot_strap.proofs.decode.Goals as goal
 
 pub returns : goal.returns
 unfolding decode_short numbers_short
-returns c = record { value = (c.decode_as.ensures).0; result_value = (c.decode_as.ensures).1 }
+returns c = c.decode_as.ensures

@@ -1,42 +1,50 @@
 -- `boot_strap::same_strap` meets its contract.
-use mathlib.Core.Path.{ap}
+use mathlib.Core.Path.{sym, ap, ◌∙◌}
 use mathlib.Core.Bool.{and_assoc, and-true}
 use Rattle.boot_strap.specs.Strap.{kind_of, fields_of, same_list, same_strap}
-use Rattle.boot_strap.proofs.StrapLaws.{other_kind, byte_beq, spi_same}
+use Rattle.boot_strap.proofs.StrapLaws.{strap_from, of_kind, other_kind, byte_beq, spi_same}
 use borrow.Author.Rules.{rules}
 use Rattle.boot_strap.proofs.same_strap.Goals as goal
 
 pub returns-in_default : goal.returns-in_default
-unfolding kind_of
-returns-in_default c = other_kind _ _ 0 (ap kind_of c.in-Sleep.is) tt c.in_default.not-Sleep
+unfolding kind_of strap_from
+returns-in_default c =
+    other_kind c.args.first c.args.second (λ e. c.in_default.not-Sleep _ _ _ (of_kind c.args.second 0 (sym e ∙ ap kind_of c.in-Sleep.is)))
 
 pub returns-in_default-second : goal.returns-in_default-second
-unfolding kind_of
-returns-in_default-second c = other_kind _ _ 1 (ap kind_of c.in-Emif16.is) tt c.in_default-second.not-Emif16
+unfolding kind_of strap_from
+returns-in_default-second c =
+    other_kind c.args.first c.args.second (λ e. c.in_default-second.not-Emif16 _ _ _ (of_kind c.args.second 1 (sym e ∙ ap kind_of c.in-Emif16.is)))
 
 pub returns-in_default-second-2 : goal.returns-in_default-second-2
-unfolding kind_of
-returns-in_default-second-2 c = other_kind _ _ 2 (ap kind_of c.in-Link.is) tt c.in_default-second-2.not-Link
+unfolding kind_of strap_from
+returns-in_default-second-2 c =
+    other_kind c.args.first c.args.second (λ e. c.in_default-second-2.not-Link _ _ _ (of_kind c.args.second 2 (sym e ∙ ap kind_of c.in-Link.is)))
 
 pub returns-in_default-second-3 : goal.returns-in_default-second-3
-unfolding kind_of
-returns-in_default-second-3 c = other_kind _ _ 3 (ap kind_of c.in-Ethernet.is) tt c.in_default-second-3.not-Ethernet
+unfolding kind_of strap_from
+returns-in_default-second-3 c =
+    other_kind c.args.first c.args.second (λ e. c.in_default-second-3.not-Ethernet _ _ _ _ _ (of_kind c.args.second 3 (sym e ∙ ap kind_of c.in-Ethernet.is)))
 
 pub returns-in_default-second-4 : goal.returns-in_default-second-4
-unfolding kind_of
-returns-in_default-second-4 c = other_kind _ _ 4 (ap kind_of c.in-Pcie.is) tt c.in_default-second-4.not-Pcie
+unfolding kind_of strap_from
+returns-in_default-second-4 c =
+    other_kind c.args.first c.args.second (λ e. c.in_default-second-4.not-Pcie _ _ _ (of_kind c.args.second 4 (sym e ∙ ap kind_of c.in-Pcie.is)))
 
 pub returns-in_default-second-5 : goal.returns-in_default-second-5
-unfolding kind_of
-returns-in_default-second-5 c = other_kind _ _ 5 (ap kind_of c.in-I2cMaster.is) tt c.in_default-second-5.not-I2cMaster
+unfolding kind_of strap_from
+returns-in_default-second-5 c =
+    other_kind c.args.first c.args.second (λ e. c.in_default-second-5.not-I2cMaster _ (of_kind c.args.second 5 (sym e ∙ ap kind_of c.in-I2cMaster.is)))
 
 pub returns-in_default-second-6 : goal.returns-in_default-second-6
-unfolding kind_of
-returns-in_default-second-6 c = other_kind _ _ 6 (ap kind_of c.in-I2cPassive.is) tt c.in_default-second-6.not-I2cPassive
+unfolding kind_of strap_from
+returns-in_default-second-6 c =
+    other_kind c.args.first c.args.second (λ e. c.in_default-second-6.not-I2cPassive _ (of_kind c.args.second 6 (sym e ∙ ap kind_of c.in-I2cPassive.is)))
 
 pub returns-in_default-second-7 : goal.returns-in_default-second-7
-unfolding kind_of
-returns-in_default-second-7 c = other_kind _ _ 7 (ap kind_of c.in-Spi.is) tt c.in_default-second-7.not-Spi
+unfolding kind_of strap_from
+returns-in_default-second-7 c =
+    other_kind c.args.first c.args.second (λ e. c.in_default-second-7.not-Spi _ _ _ _ _ _ (of_kind c.args.second 7 (sym e ∙ ap kind_of c.in-Spi.is)))
 
 pub returns-in-Sleep-second : goal.returns-in-Sleep-second
 unfolding same_strap kind_of fields_of same_list

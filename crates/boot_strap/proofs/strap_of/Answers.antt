@@ -37,25 +37,18 @@ unfolding strap_of
 returns-else-value-eq1 c = sym (simp (div-one, c.in-5.is, ne_eqb _ _ c.if-value-eq1.false))
 
 -- a device below 4 that is neither 0 nor 1
-two-or-three : (x : ℕ) → (x ≡ 0 → ⊥) → (x ≡ 1 → ⊥) → x < 4 → (x ≡ 2) ⊎ (x ≡ 3)
-two-or-three x n0 n1 h =
-    let l : 2 ≤ x = omega arith in
-    ⊎_elim (λ e. inl (sym e)) (λ k. inr (omega arith)) (eq-or-lt_of_le l)
+two_or_three : (x : ℕ) → 2 ≤ x → x < 4 → (x ≡ 2) ⊎ (x ≡ 3)
+two_or_three x l h = ⊎_elim (λ e. inl (sym e)) (λ k. inr (omega arith)) (eq-or-lt_of_le l)
 
 pub returns-in-2 : goal.returns-in-2
 unfolding strap_of
 returns-in-2 c =
-    let m = c.in_default-1.rest in
-    let x = c.args.value % 8 in
-    let k = two-or-three x m.0.0.0.1 (λ e. m.0.0.1 (inl e)) c.in-2.true in
-    ⊎_elim (λ (e : x ≡ 2). sym (simp (div-one, e))) (λ (e : x ≡ 3). sym (simp (div-one, e))) k
-
--- a device from 4 on that is neither 4, 5 nor 7
-only-six : (x : ℕ) → 4 ≤ x → x < 8 → (x ≡ 4 → ⊥) → (x ≡ 5 → ⊥) → (x ≡ 7 → ⊥) → x ≡ 6
-only-six x l h n4 n5 n7 = omega arith
+    let k = two_or_three (c.args.value % 8) (grind arith) (omega arith) in
+    ⊎_elim (λ (e : c.args.value % 8 ≡ 2). sym (simp (div-one, e))) (λ (e : c.args.value % 8 ≡ 3). sym (simp (div-one, e))) k
 
 pub returns-in_default : goal.returns-in_default
 unfolding strap_of
 returns-in_default c =
-    let m = c.in_default-1.rest in
-    sym (simp (div-one, only-six _ c.in_default.false (mod-lt _ (lit< tt)) m.0.1 m.1 (λ e. m.0.0.1 (inr e))))
+    let b : c.args.value % 8 < 8 = mod-lt _ (lit< tt) in
+    let e : c.args.value % 8 ≡ 6 = grind arith in
+    sym (simp (div-one, e))
