@@ -1,20 +1,17 @@
 -- Laws of the strap value: its bits, its numbers and the comparison.
 use Prim.Native.Nat.{ℕ, zero, suc, ◌%◌, ◌<◌}
-use mathlib.Core.Path.{◌≡◌, refl, sym, ap, subst, ◌∙◌}
-use mathlib.Core.Bool.{Bool, true, false, not, ◌&&◌, beq, and_assoc, and-true}
+use mathlib.Core.Path.{◌≡◌, refl, sym, ap, ◌∙◌}
+use mathlib.Core.Bool.{Bool, true, false, ◌&&◌, beq, and_assoc, and-true}
 use mathlib.Core.List.{List, [], ◌∷◌}
 use mathlib.Core.Logic.{◌↔◌}
 use native.Mathlib.Nat.{mod-lt}
 use native.Mathlib.Omega.{arith}
-use mir.Val.{bool_byte, has_key}
-use lib.Dec.{T, eqb, lit<}
+use mir.Val.{bool_byte}
+use lib.Dec.{eqb, lit<}
 use lib.ListN.{get_or}
 use borrow.Author.Tests.{eqb-true, eq-eqb, ne_eqb}
-use denote.Enum.Declared.{tag_of}
-use types.Run.{OneOf, miss}
 use Rattle.words.specs.Choice.{if}
 use Rattle.words.proofs.ChoiceLaws.{and_yes}
-use Rattle.boot_strap.specs.contracts.Strap.{the_type}
 use Rattle.boot_strap.specs.declared.Manner.{Manner}
 use Rattle.boot_strap.specs.declared.Strap.{Strap}
 use Rattle.boot_strap.specs.declared.Strap.TheVariants.{Sleep, Emif16, Link, Ethernet, Pcie, I2cMaster, I2cPassive, Spi}

@@ -1,6 +1,5 @@
 -- `boot_strap::decode` meets its contract.
 use Rattle.boot_strap.specs.Strap.{decode_short, numbers_short}
-use borrow.Author.Rules.{rules}
 use Rattle.boot_strap.proofs.decode.Goals as goal
 
 pub returns : goal.returns

@@ -3,7 +3,6 @@ use mathlib.Core.Path.{sym}
 use borrow.Author.Tests.{lt-ltb, le-ltb}
 use Rattle.boot_strap.specs.Strap.{strap_limit, decode_as}
 use Rattle.boot_strap.proofs.StrapLaws.{with_numbers}
-use borrow.Author.Rules.{rules}
 use Rattle.boot_strap.proofs.decode_as.Goals as goal
 
 pub returns-then-value-gt-STRAP_LIMIT : goal.returns-then-value-gt-STRAP_LIMIT

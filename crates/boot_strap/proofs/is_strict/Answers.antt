@@ -1,6 +1,5 @@
 -- `boot_strap::is_strict` meets its contract.
 use mathlib.Core.Path.{sym, ap}
-use borrow.Author.Rules.{rules}
 use Rattle.boot_strap.specs.Strap.{is_strict}
 use Rattle.boot_strap.proofs.is_strict.Goals as goal
 

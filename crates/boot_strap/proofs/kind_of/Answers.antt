@@ -1,7 +1,6 @@
 -- `boot_strap::kind_of` meets its contract.
 use mathlib.Core.Path.{sym, ap}
 use Rattle.boot_strap.specs.Strap.{kind_of}
-use borrow.Author.Rules.{rules}
 use Rattle.boot_strap.proofs.kind_of.Goals as goal
 
 pub returns-in-Sleep : goal.returns-in-Sleep

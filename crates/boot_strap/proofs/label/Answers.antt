@@ -1,7 +1,6 @@
 -- `boot_strap::label` meets its contract.
 use mathlib.Core.Path.{sym, ap, ◌∙◌}
 use Rattle.boot_strap.specs.Strap.{label_of, label_answer}
-use borrow.Author.Rules.{rules}
 use Rattle.boot_strap.proofs.label.Goals as goal
 
 pub returns-in-Refused : goal.returns-in-Refused

@@ -1,6 +1,5 @@
 -- `boot_strap::numbers` meets its contract.
 use Rattle.boot_strap.specs.Strap.{answer_numbers, nine}
-use borrow.Author.Rules.{rules}
 use Rattle.boot_strap.proofs.numbers.Goals as goal
 
 pub returns-in-Refused : goal.returns-in-Refused

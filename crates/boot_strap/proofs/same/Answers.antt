@@ -2,7 +2,6 @@
 use mathlib.Core.Path.{sym, ◌∙◌}
 use Rattle.boot_strap.specs.Strap.{same_of, same_answer}
 use Rattle.boot_strap.proofs.StrapLaws.{first_refused}
-use borrow.Author.Rules.{rules}
 use Rattle.boot_strap.proofs.same.Goals as goal
 
 -- 'first' and 'second' below: what a value was matched as is its lenient answer

@@ -3,7 +3,6 @@ use mathlib.Core.Path.{sym, ap, ◌∙◌}
 use mathlib.Core.Bool.{and_assoc, and-true}
 use Rattle.boot_strap.specs.Strap.{kind_of, fields_of, same_list, same_strap}
 use Rattle.boot_strap.proofs.StrapLaws.{strap_from, of_kind, other_kind, byte_beq, spi_same}
-use borrow.Author.Rules.{rules}
 use Rattle.boot_strap.proofs.same_strap.Goals as goal
 
 pub returns-in_default : goal.returns-in_default

@@ -1,6 +1,5 @@
 -- `boot_strap::strap_numbers` meets its contract.
 use Rattle.boot_strap.specs.Strap.{kind_of, fields_of, nine}
-use borrow.Author.Rules.{rules}
 use Rattle.boot_strap.proofs.strap_numbers.Goals as goal
 
 pub returns-in-Sleep : goal.returns-in-Sleep

@@ -1,6 +1,5 @@
 -- `listing::digit`: below ten a figure, else a letter.
 use borrow.Author.Tests.{lt-ltb, le-ltb}
-use borrow.Author.Rules.{rules}
 use Rattle.listing.specs.Text.{digit_of}
 use Rattle.listing.proofs.digit.Goals as goal
 

@@ -1,7 +1,6 @@
 -- `listing::list`: each return is the text that the tests before it lead to, or nothing where the buffer is too short.
 use Prim.Native.Nat.{◌+◌, ◌≤◌}
 use native.Mathlib.Omega.{arith}
-use borrow.Author.Rules.{rules}
 use lib.ListN.{length}
 use Rattle.boot_table.specs.Table.{entry_of, reading}
 use Rattle.boot_table.proofs.FormLaws.{well_long}
@@ -39,12 +38,16 @@ returns-then-form-ne0 c =
 module _ (c : Else-form-ne0) where
   abbrev form : Form
   form = c.form_of-form.result
+
   short : length c.args.table.now ≤ list_limit
   short = omega arith
+
   well : WellFormed c.args.order c.args.table.now
   well = listed_well _ c.args.table.now short form c.form_of-form.ensures c.if-form-ne0.false
+
   room : 21 + length (section_lines (reading c.args.order c.args.table.now).sections) + length (decimal_text form.sections) + length (decimal_text form.bytes) ≤ length c.args.buffer.now
   room = omega (arith, listed_room _ c.args.table.now short form c.form_of-form.ensures c.if-form-ne0.false)
+
   enough : text_bound c.args.table.now ≤ length c.args.buffer.now
   enough = omega (arith, bound_within c.args.table.now short)
 

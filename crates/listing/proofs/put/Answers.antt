@@ -1,7 +1,6 @@
 -- `listing::put`: the part that was lent is back with the bytes at its front.
 use mathlib.Core.Path.{refl}
 use native.Mathlib.Omega.{arith}
-use borrow.Author.Rules.{rules}
 use Rattle.words.proofs.RunLaws.{lent_back}
 use Rattle.listing.proofs.put.Goals as goal
 

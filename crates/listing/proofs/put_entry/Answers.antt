@@ -1,7 +1,6 @@
 -- `listing::put_entry`: three pieces are the line.
 use Prim.Native.Nat.{◌+◌, ◌≤◌}
 use native.Mathlib.Omega.{arith}
-use borrow.Author.Rules.{rules}
 use lib.ListN.{length}
 use Rattle.listing.specs.Listing.{entry_line}
 use Rattle.listing.specs.Text.{hex_text}

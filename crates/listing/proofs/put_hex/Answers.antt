@@ -1,5 +1,4 @@
 -- `listing::put_hex`: the eight digits are the text of the word.
-use borrow.Author.Rules.{rules}
 use Rattle.listing.specs.Text.{hex_text}
 use Rattle.listing.proofs.put_hex.Goals as goal
 

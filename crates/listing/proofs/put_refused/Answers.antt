@@ -1,7 +1,6 @@
 -- `listing::put_refused`: five pieces are the line.
 use Prim.Native.Nat.{◌+◌, ◌≤◌}
 use native.Mathlib.Omega.{arith}
-use borrow.Author.Rules.{rules}
 use lib.ListN.{length}
 use Rattle.listing.specs.Listing.{refused_line}
 use Rattle.listing.specs.Text.{decimal_text}

@@ -1,15 +1,13 @@
 -- `listing::put_sections`: the lines before the offset are written, and writing those from it on comes to writing all.
-use Prim.Native.Nat.{ℕ, ◌+◌, ◌-◌}
+use Prim.Native.Nat.{ℕ, ◌+◌}
 use mathlib.Core.Path.{◌≡◌, refl, sym, ap, ◌∙◌}
 use mathlib.Core.List.{List}
 use native.Mathlib.Omega.{arith}
-use borrow.Author.Rules.{rules}
 use lib.ListN.{length, length-append}
-use Rattle.words.specs.declared.ByteOrder.{ByteOrder}
 use Rattle.words.specs.Run.{over}
 use Rattle.words.proofs.RunLaws.{over_none, over_over}
 use Rattle.boot_table.specs.declared.Step.TheVariants.{Section}
-use Rattle.boot_table.specs.Table.{Reading, step_at, reading, read_on}
+use Rattle.boot_table.specs.Table.{Reading, step_at, read_on}
 use Rattle.boot_table.proofs.StepLaws.{section_of}
 use Rattle.boot_table.proofs.ReadLaws.{read_else, read_next}
 use Rattle.boot_table.proofs.FormLaws.{well_read}

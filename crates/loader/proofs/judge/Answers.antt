@@ -2,7 +2,6 @@
 use mathlib.Core.Path.{sym, ◌∙◌, ap}
 use Rattle.loader.specs.Load.{on_repeat}
 use Rattle.loader.proofs.AnswerLaws.{map_refused, map_judged, once_refused, once_formed, once_judged}
-use borrow.Author.Rules.{rules}
 use Rattle.loader.proofs.judge.Goals as goal
 
 pub returns-then-regions-ne0 : goal.returns-then-regions-ne0

@@ -9,7 +9,6 @@ use Rattle.loader.specs.declared.Answer.{Answer}
 use Rattle.loader.specs.Load.{on_repeat, table_answer, load_answer}
 use Rattle.loader.proofs.RuleLaws.{same_number}
 use Rattle.loader.proofs.AnswerLaws.{answer_bytes, load_refused, load_sized, load_judged, memory_kept, memory_stored, once_refused, once_formed, once_judged}
-use borrow.Author.Rules.{rules}
 use Rattle.loader.proofs.load.Goals as goal
 use Rattle.loader.proofs.load.Goals.{After-judge_open-answer, Else-answer-ne0, In-Nowhere}
 

@@ -1,5 +1,4 @@
 -- `loader::stored_twice`: the refusal with its number.
-use borrow.Author.Rules.{rules}
 use Rattle.loader.proofs.stored_twice.Goals as goal
 
 pub returns : goal.returns

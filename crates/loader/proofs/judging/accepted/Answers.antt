@@ -4,7 +4,6 @@ use native.Mathlib.Omega.{arith}
 use Rattle.boot_table.specs.Form.{formed}
 use Rattle.boot_table.proofs.FormLaws.{well_long}
 use Rattle.loader.proofs.AnswerLaws.{form_formed, fine_is}
-use borrow.Author.Rules.{rules}
 use Rattle.loader.proofs.judging.accepted.Goals as goal
 
 pub entry_of-entry-requires : goal.entry_of-entry-requires

@@ -2,7 +2,6 @@
 use Rattle.region_map.proofs.OpenLaws.{lowest_low, lowest_each, lowest_at}
 use native.Mathlib.Omega.{arith}
 use mathlib.Core.Path.{sym, ◌∙◌}
-use borrow.Author.Rules.{rules}
 use Rattle.loader.proofs.judging.clear_past.Goals as goal
 
 pub returns-then-address-known : goal.returns-then-address-known

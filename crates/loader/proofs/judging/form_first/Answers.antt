@@ -2,7 +2,6 @@
 use mathlib.Core.Path.{◌∙◌}
 use native.Mathlib.Omega.{arith}
 use Rattle.loader.proofs.AnswerLaws.{first_refused, first_later}
-use borrow.Author.Rules.{rules}
 use Rattle.loader.proofs.judging.form_first.Goals as goal
 
 pub returns-then-form-ne0 : goal.returns-then-form-ne0

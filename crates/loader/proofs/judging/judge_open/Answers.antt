@@ -1,9 +1,6 @@
 -- `loader::judging::judge_open`: what the walk has passed is open, and what is read on decides the form, and then the map rule.
-use Prim.Native.Nat.{◌-◌}
 use mathlib.Core.Path.{◌≡◌, refl, sym, ◌∙◌}
 use native.Mathlib.Omega.{arith}
-use borrow.Author.Rules.{rules}
-use lib.ListN.{length}
 use Rattle.words.specs.Refusal.{table_long_number, table_cut_number}
 use Rattle.boot_table.specs.declared.Step.TheVariants.{Section, End}
 use Rattle.boot_table.specs.Table.{step_at}
@@ -11,7 +8,7 @@ use Rattle.boot_table.specs.Form.{misformed, formed, form_of}
 use Rattle.boot_table.proofs.StepLaws.{section_of, end_left, fault_number}
 use Rattle.boot_table.proofs.FormLaws.{form_long, form_cut, form_start, form_end, form_fault}
 use Rattle.region_map.proofs.OpenLaws.{lowest_each}
-use Rattle.loader.specs.Judging.{Counted, Passed}
+use Rattle.loader.specs.Judging.{Passed}
 use Rattle.loader.proofs.RuleLaws.{rule_start, walk_closed, walk_end, count_on, pass_on}
 use Rattle.loader.proofs.StretchLaws.{to_closed, to_open}
 use Rattle.loader.proofs.AnswerLaws.{open_refused, open_judged, open_then}
@@ -27,8 +24,7 @@ returns-then-table-lt4 c =
     c.refused-then-table-lt4.ensures ∙ open_refused _ _ _ (misformed table_cut_number 0) (sym (form_cut _ _ (omega arith) (omega arith))) (λ z. omega arith)
 
 pub loop-address-init : goal.loop-address-init
-loop-address-init c =
-    (
+loop-address-init c = (
   record { within = omega arith; few = omega arith; small = omega arith },
   record {
     form = form_start _ _ (omega arith) (omega arith);
@@ -96,8 +92,7 @@ loop-address-smaller c =
     omega (arith, c.walk_on-walk.ensures.far, section_of _ _ _ (step_is (goal.at.loop-address-smaller c).In-Section))
 
 pub loop-address-preserved : goal.loop-address-preserved
-loop-address-preserved c =
-    (
-      count_on _ _ c.walk_on-walk.result (step_is (goal.at.loop-address-preserved c).In-Section) c.walk_on-walk.ensures.counted,
-      pass_on _ _ c.walk_on-walk.result (step_is (goal.at.loop-address-preserved c).In-Section) _ _ _ (so_far (goal.at.loop-address-preserved c).After-walk_on-walk) (to_open _ _ _ _ c.stretch_to-known.ensures (omega arith)) c.stretch_to-known.ensures.is,
-    )
+loop-address-preserved c = (
+  count_on _ _ c.walk_on-walk.result (step_is (goal.at.loop-address-preserved c).In-Section) c.walk_on-walk.ensures.counted,
+  pass_on _ _ c.walk_on-walk.result (step_is (goal.at.loop-address-preserved c).In-Section) _ _ _ (so_far (goal.at.loop-address-preserved c).After-walk_on-walk) (to_open _ _ _ _ c.stretch_to-known.ensures (omega arith)) c.stretch_to-known.ensures.is,
+)

@@ -1,11 +1,6 @@
 -- `loader::judging::lengthen`: each turn takes what is permitted and clear from the stretch's end on.
-use Prim.Native.Nat.{ℕ, ◌-◌, ◌≤◌}
-use mathlib.Core.Path.{◌≡◌, refl}
-use mathlib.Core.List.{List}
+use mathlib.Core.Path.{refl}
 use native.Mathlib.Omega.{arith}
-use borrow.Author.Rules.{rules}
-use Rattle.loader.specs.declared.judging.Stretch.{Stretch}
-use Rattle.loader.specs.Judging.{Open}
 use Rattle.loader.proofs.StretchLaws.{open_join, open_next, open_none}
 use Rattle.loader.proofs.judging.lengthen.Goals as goal
 

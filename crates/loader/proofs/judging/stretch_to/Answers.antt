@@ -1,6 +1,5 @@
 -- `loader::judging::stretch_to`: the known stretch goes on, or one begins at the address, where only the lowest reserved address is known.
 use native.Mathlib.Omega.{arith}
-use borrow.Author.Rules.{rules}
 use Rattle.loader.proofs.judging.stretch_to.Goals as goal
 
 pub lengthen-requires-2 : goal.lengthen-requires-2

@@ -1,7 +1,6 @@
 -- `loader::storing::region_for`: the known region holds the address, or the one that is found does.
 use Rattle.region_map.proofs.PlaceLaws.{region_places, region_holds}
 use Rattle.region_map.proofs.FaultLaws.{sound_length}
-use borrow.Author.Rules.{rules}
 use Rattle.loader.proofs.storing.region_for.Goals as goal
 
 pub region_of-requires : goal.region_of-requires

@@ -5,7 +5,6 @@ use native.Mathlib.Omega.{arith}
 use lib.Seq.{length-take-le}
 use Rattle.words.proofs.RunLaws.{lent_back}
 use Rattle.loader.proofs.StoreLaws.{run_fits}
-use borrow.Author.Rules.{rules}
 use Rattle.loader.proofs.storing.store_run.Goals as goal
 use Rattle.loader.proofs.storing.store_run.Goals.{After-lower-count}
 

@@ -1,18 +1,11 @@
 -- `loader::storing::store_section`: what is done is stored, and storing the rest of the data comes to storing all of it.
-use Prim.Native.Nat.{ℕ, ◌≤◌, ◌<◌, ◌-◌, ◌+◌}
-use mathlib.Core.Path.{◌≡◌, refl, sym, ◌∙◌, ap}
+use Prim.Native.Nat.{ℕ, ◌≤◌, ◌-◌, ◌+◌}
+use mathlib.Core.Path.{◌≡◌}
 use mathlib.Core.List.{List}
-use native.Mathlib.Omega.{arith}
-use borrow.Author.Rules.{rules}
-use lib.ListN.{length, take, drop, length-drop}
-use lib.Seq.{drop-length, length-take-le}
-use Rattle.words.specs.Run.{over}
-use Rattle.words.proofs.RunLaws.{part_to_end}
-use Rattle.region_map.proofs.OpenLaws.{open_each}
+use lib.ListN.{length, drop}
 use Rattle.region_map.specs.declared.places.Region.{Region}
 use Rattle.region_map.specs.Search.{Places}
 use Rattle.loader.specs.Store.{store_bytes}
-use Rattle.loader.proofs.StoreLaws.{region_stored, store_more}
 use Rattle.loader.proofs.storing.store_section.Given as goal
 
 -- n bytes of the data are stored, at is the address of the next, and the region has its places

@@ -1,22 +1,15 @@
 -- `loader::storing::store_sections`: the sections before the offset are stored, and storing those from it on comes to storing all.
-use Prim.Native.Nat.{ℕ, ◌-◌}
+use Prim.Native.Nat.{ℕ}
 use mathlib.Core.Path.{◌≡◌, refl, sym, ◌∙◌, ap}
 use mathlib.Core.List.{List}
 use native.Mathlib.Omega.{arith}
-use borrow.Author.Rules.{rules}
-use lib.ListN.{length}
-use Rattle.words.specs.declared.ByteOrder.{ByteOrder}
 use Rattle.boot_table.specs.declared.Step.TheVariants.{Section}
-use Rattle.boot_table.specs.Table.{Reading, step_at, reading, read_on}
-use Rattle.boot_table.specs.Valid.{All}
+use Rattle.boot_table.specs.Table.{Reading, step_at, read_on}
 use Rattle.boot_table.proofs.StepLaws.{section_of}
-use Rattle.region_map.specs.declared.places.Region.{Region}
-use Rattle.region_map.specs.Search.{Places}
 use Rattle.region_map.specs.Map.{closed_from}
 use Rattle.boot_table.proofs.ReadLaws.{read_else, read_next}
 use Rattle.boot_table.proofs.FormLaws.{well_read}
 use Rattle.loader.specs.Store.{store_bytes, store_all}
-use Rattle.loader.specs.Load.{Opens}
 use Rattle.loader.proofs.RuleLaws.{opens_next}
 use Rattle.loader.proofs.StoreLaws.{lent_body, lent_length, walk_store, walk_stored}
 use Rattle.loader.proofs.AnswerLaws.{table_only}
@@ -64,10 +57,13 @@ slice_bounds-store_section-end c = omega (arith, section_of _ _ _ (step_is (goal
 
 pub store_section-region-requires : goal.store_section-region-requires
 store_section-region-requires c =
-    let n = lent_length _ _ _ (section_of _ _ _ (step_is (goal.at.store_section-region-requires c).In-Section)) in record { sound_map = (c.requires.sound_map.0, c.loop-address.invariant.same ∙ c.requires.sound_map.1, c.loop-address.invariant.places); body_bound = (
+    let n = lent_length _ _ _ (section_of _ _ _ (step_is (goal.at.store_section-region-requires c).In-Section)) in record {
+      sound_map = (c.requires.sound_map.0, c.loop-address.invariant.same ∙ c.requires.sound_map.1, c.loop-address.invariant.places);
+      body_bound = (
         omega (arith, n, (section_of _ _ _ (step_is (goal.at.store_section-region-requires c).In-Section)).top),
         ap (λ (x : ℕ). closed_from c.args.map.now x c.in-Section.address) n ∙ (opens_next _ _ _ _ (step_is (goal.at.store_section-region-requires c).In-Section) c.loop-address.invariant.opens).0,
-      ) }
+      );
+    }
 
 pub loop-address-smaller : goal.loop-address-smaller
 loop-address-smaller c = omega (arith, section_of _ _ _ (step_is (goal.at.loop-address-smaller c).In-Section))

@@ -1,25 +1,15 @@
 -- `loader::storing::store_sections`: the sections before the offset are stored, and storing those from it on comes to storing all.
 use Prim.Native.Nat.{ℕ, ◌-◌}
-use mathlib.Core.Path.{◌≡◌, refl, sym, ◌∙◌, ap}
+use mathlib.Core.Path.{◌≡◌}
 use mathlib.Core.List.{List}
-use native.Mathlib.Omega.{arith}
-use borrow.Author.Rules.{rules}
 use lib.ListN.{length}
 use Rattle.words.specs.declared.ByteOrder.{ByteOrder}
-use Rattle.boot_table.specs.declared.Step.TheVariants.{Section}
-use Rattle.boot_table.specs.Table.{Reading, step_at, reading, read_on}
+use Rattle.boot_table.specs.Table.{reading, read_on}
 use Rattle.boot_table.specs.Valid.{All}
-use Rattle.boot_table.proofs.StepLaws.{section_of}
 use Rattle.region_map.specs.declared.places.Region.{Region}
 use Rattle.region_map.specs.Search.{Places}
-use Rattle.region_map.specs.Map.{closed_from}
-use Rattle.boot_table.proofs.ReadLaws.{read_else, read_next}
-use Rattle.boot_table.proofs.FormLaws.{well_read}
-use Rattle.loader.specs.Store.{store_bytes, store_all}
+use Rattle.loader.specs.Store.{store_all}
 use Rattle.loader.specs.Load.{Opens}
-use Rattle.loader.proofs.RuleLaws.{opens_next}
-use Rattle.loader.proofs.StoreLaws.{lent_body, lent_length, walk_store, walk_stored}
-use Rattle.loader.proofs.AnswerLaws.{table_only}
 use Rattle.loader.proofs.storing.store_sections.Given as goal
 
 -- the table is whole and open from the offset on, the sections before it are stored, and the region has its places
