@@ -95,12 +95,17 @@ module _ (o : ByteOrder) (d : List ℕ) (count room : ℕ) where
       (λ h. rw (le-ltb _ _ h) (ap (λ (m : ℕ). room_rule m count room) (omega arith)))
       (λ h. let h' : table_limit < bytes = omega arith in rw (lt-ltb _ _ h') (sym (room_long _ count room (omega arith)) ∙ room_long _ count room (omega arith)))
 
+  -- the bytes of a list: how many the first section has, and the others
+  sects_length : (x : Section) (xs : List Section) → length (chunks o (sects_of (x ∷ xs) d)) ≡ length (chunk o (sect_of d x)) + length (chunks o (sects_of xs d))
+  sects_length x xs = rw (sects_cons, length-append) refl
+
   judged_from : (xs : List Section) (i bytes : ℕ) → answer_of (judge_from xs i (length d) bytes) count room ≡ list_rule (length d) (room_rule (bytes + length (chunks o (sects_of xs d))) count room) i xs
   unfolding answer_of judge_from list_rule
   judged_from [] i bytes = ap (λ (m : ℕ). room_rule m count room) (sym (rw (sects_none o d, add-zero) refl))
   judged_from (x ∷ xs) i bytes =
       by_cases (ℕ_discrete (fault_of x (length d)) 0)
-      (λ e. rw (eq-eqb _ _ e, sects_cons, length-append) (judged_from xs (suc i) (longer bytes x.size) ∙ ap (λ (w : Written). list_rule (length d) w (suc i) xs) (room_longer x bytes (length (chunks o (sects_of xs d))) e)))
+      (λ e. rw (eq-eqb _ _ e) (judged_from xs (suc i) (longer bytes x.size) ∙ ap (λ (w : Written). list_rule (length d) w (suc i) xs)
+      (room_longer x bytes (length (chunks o (sects_of xs d))) e ∙ ap (λ (m : ℕ). room_rule (bytes + m) count room) (sym (sects_length x xs)))))
       (λ e. simp (ne_eqb _ _ e))
 
 -- the judged list's answer is what writing answers

@@ -1,5 +1,3 @@
-pub mod Walk
-pub mod Again
 pub mod ListLaws
 pub mod FaultLaws
 pub mod SectionLaws

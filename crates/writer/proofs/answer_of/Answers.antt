@@ -1,7 +1,7 @@
 -- `writer::answer_of`: each test is one of the definition's.
 use mathlib.Core.Path.{◌∙◌}
+use native.Mathlib.Omega.{arith}
 use Rattle.writer.proofs.AnswerLaws.{room_long, room_short, room_done, answer_bad, answer_counted}
-use borrow.Author.Rules.{rules}
 use Rattle.writer.proofs.answer_of.Goals as goal
 
 pub returns-then-judged-ne0 : goal.returns-then-judged-ne0
@@ -13,7 +13,7 @@ returns-then-judged-gt-TABLE_LIMIT c =
 
 pub returns-then-room-judged : goal.returns-then-room-judged
 returns-then-room-judged c =
-    c.refused-then-room-judged.ensures ∙ room_short _ _ _ c.if-judged-gt-TABLE_LIMIT.false c.if-room-judged.true ∙ answer_counted _ _ _ c.if-judged-ne0.false
+    c.refused-then-room-judged.ensures ∙ room_short _ _ _ (omega arith) c.if-room-judged.true ∙ answer_counted _ _ _ c.if-judged-ne0.false
 
 pub returns : goal.returns
 returns c =

@@ -1,6 +1,5 @@
 -- `writer::judge_section`: a fault, or a table that is longer by the section.
 use Rattle.writer.proofs.JudgeLaws.{one_bad, one_more}
-use borrow.Author.Rules.{rules}
 use Rattle.writer.proofs.judge_section.Goals as goal
 
 pub returns-then-number-ne0 : goal.returns-then-number-ne0

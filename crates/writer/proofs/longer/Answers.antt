@@ -2,7 +2,6 @@
 use native.Mathlib.Omega.{arith}
 use Rattle.words.proofs.WordLaws.{pad_lt}
 use Rattle.writer.proofs.JudgeLaws.{longer_still, longer_more}
-use borrow.Author.Rules.{rules}
 use Rattle.writer.proofs.longer.Goals as goal
 
 pub returns-then-length-gt-TABLE_LIMIT : goal.returns-then-length-gt-TABLE_LIMIT

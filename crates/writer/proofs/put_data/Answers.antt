@@ -5,7 +5,6 @@ use native.Mathlib.Omega.{arith}
 use Rattle.words.proofs.RunLaws.{lent_back}
 use Rattle.words.proofs.WordLaws.{pad_aligns}
 use Rattle.writer.proofs.SectionLaws.{cleared_data}
-use borrow.Author.Rules.{rules}
 use Rattle.writer.proofs.put_data.Goals as goal
 
 pub put_short-requires : goal.put_short-requires

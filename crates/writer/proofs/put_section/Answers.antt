@@ -37,8 +37,7 @@ put_data-requires c =
     (r.0, search rules, r.1, omega (arith, r))
 
 pub returns : goal.returns
-returns c =
-    (
-      c.put_data.ensures.0 ∙ next_is c.args.at c.args.section.size,
-      section_parts c.args.order c.args.«data».now c.args.output.now c.args.section c.args.at c.requires.0 c.requires.1 c.put_header.ensures c.put_header-2.ensures c.put_data.ensures.1,
-    )
+returns c = (
+  c.put_data.ensures.0 ∙ next_is c.args.at c.args.section.size,
+  section_parts c.args.order c.args.«data».now c.args.output.now c.args.section c.args.at c.requires.0 c.requires.1 c.put_header.ensures c.put_header-2.ensures c.put_data.ensures.1,
+)

@@ -3,7 +3,6 @@ use mathlib.Core.Path.{ap, ◌∙◌}
 use native.Mathlib.Omega.{arith}
 use Rattle.words.specs.Run.{over}
 use Rattle.writer.proofs.SectionLaws.{word_of_four, word_of_three, word_of_two, word_of_one}
-use borrow.Author.Rules.{rules}
 use Rattle.writer.proofs.put_short.Goals as goal
 
 pub returns-in-4 : goal.returns-in-4

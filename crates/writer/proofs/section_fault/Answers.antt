@@ -2,7 +2,6 @@
 use mathlib.Core.Path.{sym, ◌∙◌}
 use borrow.Author.Tests.{ltb-true, ltb-false}
 use Rattle.writer.proofs.FaultLaws.{fault_empty, fault_data, fault_top, fault_none}
-use borrow.Author.Rules.{rules}
 use Rattle.writer.proofs.section_fault.Goals as goal
 
 pub returns-then-size-eq0 : goal.returns-then-size-eq0
