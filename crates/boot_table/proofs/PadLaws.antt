@@ -19,7 +19,7 @@ use Rattle.words.proofs.HeaderLaws.{header_same, length_header}
 use Rattle.boot_table.specs.Table.{entry_of, Sect, chunk, chunks, table_of, next_of, step_at, Reading, section_at, before, read_on, reading}
 use Rattle.boot_table.specs.Form.{total, read_form, form_of, WellFormed}
 use Rattle.boot_table.specs.Pads.{in_pads, pad_from, DifferInPads, bare}
-use Rattle.boot_table.specs.Valid.{Valid, All, none, also}
+use Rattle.boot_table.specs.Valid.{Valid, All, also}
 use Rattle.boot_table.proofs.StepLaws.{IsSection, step_same, section_of, length_body, next_at}
 use Rattle.boot_table.proofs.ReadLaws.{read_section, read_end, read_fault, read_begins, step_ind}
 use Rattle.boot_table.proofs.RoundTrip.{length_chunk, length_table, read_table, table_read, valid_read}

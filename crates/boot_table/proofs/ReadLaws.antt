@@ -1,19 +1,16 @@
 -- Reading on from an offset: by the step that stands there, however many steps are allowed.
 use Prim.Native.Nat.{ℕ, zero, suc, ◌+◌, ◌≤◌, ◌<◌}
 use mathlib.Core.Path.{◌≡◌, refl, sym, ap, ◌∙◌}
-use mathlib.Core.List.{List, [], ◌∷◌}
-use mathlib.Core.Logic.{by_cases, ⊎_elim}
+use mathlib.Core.List.{List}
+use mathlib.Core.Logic.{by_cases}
 use native.Mathlib.Omega.{arith}
 use native.Mathlib.Decide.{dec_le}
 use borrow.Author.Tests.{le-ltb}
 use lib.ListN.{length}
-use types.Run.{OneOf}
-use denote.Enum.Declared.{tag_of}
 use Rattle.words.specs.declared.ByteOrder.{ByteOrder}
 use Rattle.words.specs.Word.{pad_count}
 use Rattle.words.specs.Header.{header_at}
 use Rattle.words.specs.Refusal.{table_cut_number}
-use Rattle.boot_table.specs.contracts.Step.{the_type}
 use Rattle.boot_table.specs.declared.Step.{Step}
 use Rattle.boot_table.specs.declared.Step.TheVariants.{Section, End, Fault}
 use Rattle.boot_table.specs.Table.{Reading, stop, step_at, section_at, before, on_step, read_from, read_on, reading}

@@ -1,21 +1,17 @@
 -- The walk step: what each outcome says of the table, and when it comes out.
 use Prim.Native.Nat.{ℕ, ◌+◌, ◌^◌, ◌≤◌, ◌<◌}
 use mathlib.Core.Path.{◌≡◌, refl, sym, ◌∙◌, subst}
-use mathlib.Core.List.{List, [], ◌∷◌}
-use mathlib.Core.Logic.{⊎_elim}
+use mathlib.Core.List.{List}
 use native.Mathlib.Omega.{arith}
 use borrow.Author.Tests.{eq-eqb, ne_eqb, lt-ltb, le-ltb, ltb-true, ltb-false, eqb-true, eqb-false}
 use lib.ListN.{length, take, drop, length-drop}
 use lib.Seq.{length-take-le}
 use lib.Dec.{ltb, eqb}
-use types.Run.{OneOf}
-use denote.Enum.Declared.{tag_of}
 use Rattle.words.specs.declared.ByteOrder.{ByteOrder}
 use Rattle.words.specs.Word.{pad_count}
 use Rattle.words.specs.Header.{header_at}
 use Rattle.words.specs.Refusal.{table_cut_number, bytes_after_number, past_top_number}
 use Rattle.words.proofs.ChoiceLaws.{if_split}
-use Rattle.boot_table.specs.contracts.Step.{the_type}
 use Rattle.boot_table.specs.declared.Step.{Step}
 use Rattle.boot_table.specs.declared.Step.TheVariants.{Section, End, Fault}
 use Rattle.boot_table.specs.Table.{next_of, end_step, section_step, step_at, section_at}

@@ -192,6 +192,7 @@ fn shares_earlier(map: &[u8], i: usize, span: Span) -> bool
 }
 
 // Whether record i breaks no rule.
+#[tactic(auto, using(crate::proofs::FaultLaws::not_marked, crate::proofs::FaultLaws::not_known, crate::proofs::FaultLaws::not_zeroed, crate::proofs::FaultLaws::no_length, crate::proofs::FaultLaws::past_top, crate::proofs::FaultLaws::sound_last))]
 fn is_sound(map: &[u8], i: usize, span: Span) -> bool
     requires { (i < count map.now) × Within map.now i span.low span.high }
     ensures { result ≡ sound_at map.now i }

@@ -1,5 +1,4 @@
 -- `boot_table::address_at`: the second header word of a section.
-use borrow.Author.Rules.{rules}
 use Rattle.boot_table.proofs.address_at.Goals as goal
 
 pub returns : goal.returns

@@ -1,5 +1,4 @@
 -- `boot_table::entry_of`: the header word that a table begins with.
-use borrow.Author.Rules.{rules}
 use Rattle.boot_table.proofs.entry_of.Goals as goal
 
 pub returns : goal.returns

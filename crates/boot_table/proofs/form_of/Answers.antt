@@ -1,15 +1,8 @@
 -- `boot_table::form_of`: what was passed and what reading on finds come to the form of the table.
-use Prim.Native.Nat.{ℕ, ◌≤◌, ◌-◌}
 use mathlib.Core.Path.{◌≡◌, sym, ◌∙◌}
-use mathlib.Core.List.{List}
 use native.Mathlib.Omega.{arith}
-use borrow.Author.Rules.{rules}
-use lib.ListN.{length}
-use Rattle.words.specs.declared.ByteOrder.{ByteOrder}
 use Rattle.boot_table.specs.declared.Step.TheVariants.{Section}
-use Rattle.boot_table.specs.Table.{step_at, read_on}
-use Rattle.boot_table.specs.Form.{form_of}
-use Rattle.boot_table.specs.Walk.{tally}
+use Rattle.boot_table.specs.Table.{step_at}
 use Rattle.boot_table.proofs.StepLaws.{section_of, end_left}
 use Rattle.boot_table.proofs.FormLaws.{form_long, form_cut, form_start, form_section, form_end, form_fault}
 use Rattle.boot_table.proofs.form_of.Goals as goal
@@ -23,7 +16,12 @@ returns-then-table-lt4 c = c.misformed-then-table-lt4.ensures ∙ sym (form_cut 
 
 pub loop-size-init : goal.loop-size-init
 loop-size-init c =
-    record { within = omega arith; few = omega arith; small = omega arith; form = form_start _ _ (omega arith) (omega arith) }
+    record {
+      within = omega arith;
+      few = omega arith;
+      small = omega arith;
+      form = form_start _ _ (omega arith) (omega arith);
+    }
 
 pub returns-in_default-step : goal.returns-in_default-step
 returns-in_default-step c =
@@ -47,4 +45,9 @@ loop-size-smaller c = omega (arith, section_of _ _ _ (step_is (goal.at.loop-size
 pub loop-size-preserved : goal.loop-size-preserved
 loop-size-preserved c =
     let i = section_of _ _ _ (step_is (goal.at.loop-size-preserved c).In-Section) in
-    record { within = i.within; few = omega arith; small = omega arith; form = c.loop-size.invariant.form ∙ form_section _ _ _ _ _ (step_is (goal.at.loop-size-preserved c).In-Section) }
+    record {
+      within = i.within;
+      few = omega arith;
+      small = omega arith;
+      form = c.loop-size.invariant.form ∙ form_section _ _ _ _ _ (step_is (goal.at.loop-size-preserved c).In-Section);
+    }

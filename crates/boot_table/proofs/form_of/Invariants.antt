@@ -1,17 +1,12 @@
 -- `boot_table::form_of`: what was passed and what reading on finds come to the form of the table.
 use Prim.Native.Nat.{ℕ, ◌≤◌, ◌-◌}
-use mathlib.Core.Path.{◌≡◌, sym, ◌∙◌}
+use mathlib.Core.Path.{◌≡◌}
 use mathlib.Core.List.{List}
-use native.Mathlib.Omega.{arith}
-use borrow.Author.Rules.{rules}
 use lib.ListN.{length}
 use Rattle.words.specs.declared.ByteOrder.{ByteOrder}
-use Rattle.boot_table.specs.declared.Step.TheVariants.{Section}
-use Rattle.boot_table.specs.Table.{step_at, read_on}
+use Rattle.boot_table.specs.Table.{read_on}
 use Rattle.boot_table.specs.Form.{form_of}
 use Rattle.boot_table.specs.Walk.{tally}
-use Rattle.boot_table.proofs.StepLaws.{section_of, end_left}
-use Rattle.boot_table.proofs.FormLaws.{form_long, form_cut, form_start, form_section, form_end, form_fault}
 use Rattle.boot_table.proofs.form_of.Given as goal
 
 -- k sections with b data bytes stand before at, and what is read on decides the form

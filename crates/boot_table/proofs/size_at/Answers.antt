@@ -1,5 +1,4 @@
 -- `boot_table::size_at`: the first header word of a section.
-use borrow.Author.Rules.{rules}
 use Rattle.boot_table.proofs.size_at.Goals as goal
 
 pub returns : goal.returns

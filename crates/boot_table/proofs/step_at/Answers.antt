@@ -3,7 +3,6 @@ use mathlib.Core.Path.{refl, sym, ◌∙◌}
 use native.Mathlib.Omega.{arith}
 use Rattle.boot_table.specs.Table.{next_of}
 use Rattle.boot_table.proofs.StepLaws.{step_cut, step_after, step_short, step_high, section_step_lem, end_step_lem}
-use borrow.Author.Rules.{rules}
 use borrow.Author.Tests.{ltb-true, ltb-false}
 use Rattle.boot_table.proofs.step_at.Goals as goal
 

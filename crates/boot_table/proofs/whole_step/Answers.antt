@@ -2,7 +2,6 @@
 use Prim.Native.Nat.{◌+◌}
 use mathlib.Core.Path.{◌≡◌, sym, ◌∙◌}
 use native.Mathlib.Omega.{arith}
-use borrow.Author.Rules.{rules}
 use Rattle.words.specs.Word.{pad_count}
 use Rattle.words.specs.Header.{header_at}
 use Rattle.boot_table.proofs.StepLaws.{IsSection, section_step_lem}

@@ -2,7 +2,6 @@
 use Rattle.region_map.specs.Map.{map_answer, fault_answer}
 use Rattle.region_map.proofs.FaultLaws.{sound_length}
 use mathlib.Core.Path.{sym, ◌∙◌, ap}
-use borrow.Author.Rules.{rules}
 use Rattle.region_map.proofs.judge_map.Goals as goal
 
 pub memory_size-requires : goal.memory_size-requires

@@ -1,9 +1,9 @@
 -- `words::copy`: after i turns the part begins with i bytes of the run.
-use Prim.Native.Nat.{ℕ, ◌≤◌, ◌+◌, ◌-◌}
+use Prim.Native.Nat.{ℕ}
 use mathlib.Core.Path.{◌≡◌, refl, ap, ◌∙◌}
 use mathlib.Core.List.{List, ◌++◌}
 use native.Mathlib.Omega.{arith}
-use lib.ListN.{length, take, drop, length-set}
+use lib.ListN.{length, drop, length-set}
 use lib.Seq.{take-length}
 use Rattle.words.proofs.RunLaws.{copy_more}
 use Rattle.words.proofs.copy.Goals as goal

@@ -1,6 +1,5 @@
 -- `words::header_at`: the order decides which of the four bytes is the highest.
 use Rattle.words.specs.Header.{header_at}
-use borrow.Author.Rules.{rules}
 use Rattle.words.proofs.header_at.Goals as goal
 
 pub returns-in-HighFirst : goal.returns-in-HighFirst

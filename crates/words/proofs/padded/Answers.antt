@@ -1,6 +1,5 @@
 use native.Mathlib.Omega.{arith}
 use Rattle.words.specs.Word.{pad_count}
-use borrow.Author.Rules.{rules}
 use Rattle.words.proofs.padded.Goals as goal
 
 pub returns : goal.returns

@@ -1,7 +1,6 @@
 -- `words::put_four`: the part that was lent is back.
 use native.Mathlib.Omega.{arith}
 use Rattle.words.proofs.RunLaws.{lent_back}
-use borrow.Author.Rules.{rules}
 use Rattle.words.proofs.put_four.Goals as goal
 
 pub returns : goal.returns

@@ -1,7 +1,6 @@
 -- `words::put_header`: the bytes of the word from the highest to the lowest, or the other way round.
 use Rattle.words.specs.Word.{word_bytes}
 use Rattle.words.specs.Header.{header_bytes}
-use borrow.Author.Rules.{rules}
 use Rattle.words.proofs.put_header.Goals as goal
 
 pub returns-in-HighFirst : goal.returns-in-HighFirst

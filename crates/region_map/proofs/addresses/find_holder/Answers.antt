@@ -1,9 +1,8 @@
 -- `region_map::addresses::find_holder`: the records from i on do not permit the address, so that the holder is one before them.
 use Rattle.region_map.proofs.RecordLaws.{holder_at, holder_no}
-use Rattle.region_map.specs.Map.{count, holder}
+use Rattle.region_map.specs.Map.{holder}
 use native.Mathlib.Omega.{arith}
 use mathlib.Core.Path.{◌≡◌, refl, sym, ◌∙◌}
-use Prim.Native.Nat.{◌≤◌}
 use Rattle.region_map.proofs.addresses.find_holder.Goals as goal
 
 pub loop-i-init : goal.loop-i-init

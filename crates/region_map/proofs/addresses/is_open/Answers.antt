@@ -3,7 +3,6 @@ use Rattle.region_map.proofs.RecordLaws.{held_any, holder_only, holder_none}
 use Rattle.region_map.proofs.OpenLaws.{open_test, open_not}
 use native.Mathlib.Omega.{arith}
 use mathlib.Core.Path.{sym, ◌∙◌}
-use borrow.Author.Rules.{rules}
 use Rattle.region_map.proofs.addresses.is_open.Goals as goal
 
 pub returns-in-Index : goal.returns-in-Index

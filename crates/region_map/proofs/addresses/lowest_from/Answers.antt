@@ -1,10 +1,9 @@
 -- `region_map::addresses::lowest_from`: after i turns the bound is that of the first i records.
-use Rattle.region_map.specs.Map.{count, is_kind}
+use Rattle.region_map.specs.Map.{count}
 use Rattle.region_map.specs.Search.{lowest_from}
 use native.Mathlib.Numerals.{add-one}
 use native.Mathlib.Omega.{arith}
 use mathlib.Core.Path.{◌≡◌, refl}
-use Prim.Native.Nat.{◌≤◌, ◌-◌}
 use Rattle.region_map.proofs.addresses.lowest_from.Goals as goal
 
 pub loop-i-init : goal.loop-i-init

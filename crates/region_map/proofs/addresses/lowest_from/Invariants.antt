@@ -1,9 +1,7 @@
 -- `region_map::addresses::lowest_from`: after i turns the bound is that of the first i records.
-use Rattle.region_map.specs.Map.{count, is_kind}
+use Rattle.region_map.specs.Map.{is_kind}
 use Rattle.region_map.specs.Search.{lowest_from}
-use native.Mathlib.Numerals.{add-one}
-use native.Mathlib.Omega.{arith}
-use mathlib.Core.Path.{◌≡◌, refl}
+use mathlib.Core.Path.{◌≡◌}
 use Prim.Native.Nat.{◌≤◌, ◌-◌}
 use Rattle.region_map.proofs.addresses.lowest_from.Given as goal
 

@@ -8,7 +8,6 @@ use mathlib.Core.Bool.{true, false}
 use mathlib.Core.Path.{◌≡◌}
 use Prim.Native.Nat.{max}
 use lib.Dec.{ltb}
-use borrow.Author.Rules.{rules}
 use Rattle.region_map.proofs.addresses.lowest_in.Goals as goal
 
 pub returns-then-kind_at-kind : goal.returns-then-kind_at-kind

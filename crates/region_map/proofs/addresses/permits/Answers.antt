@@ -1,9 +1,7 @@
 -- `region_map::addresses::permits`: the two tests of the definition, the second one first.
 use Rattle.region_map.specs.Map.{permitted}
 use Rattle.words.proofs.ChoiceLaws.{and_no, and_given}
-use borrow.Author.Tests.{not-true, not-false}
 use mathlib.Core.Path.{sym, ◌∙◌}
-use borrow.Author.Rules.{rules}
 use Rattle.region_map.proofs.addresses.permits.Goals as goal
 
 pub returns-then-not-record_holds : goal.returns-then-not-record_holds

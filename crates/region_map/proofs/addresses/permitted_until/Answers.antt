@@ -6,7 +6,6 @@ use native.Mathlib.Numerals.{add-one}
 use native.Mathlib.Omega.{arith}
 use mathlib.Core.Path.{◌≡◌, sym, ◌∙◌, ap}
 use Prim.Native.Nat.{ℕ, ◌-◌, ◌+◌}
-use borrow.Author.Rules.{rules}
 use Rattle.region_map.proofs.addresses.permitted_until.Goals as goal
 use Rattle.region_map.proofs.addresses.permitted_until.Goals.{In-Index}
 

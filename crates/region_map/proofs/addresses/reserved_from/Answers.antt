@@ -1,6 +1,5 @@
 -- `region_map::addresses::reserved_from`: the search for the kind.
 use Rattle.region_map.specs.Map.{reserved}
-use borrow.Author.Rules.{rules}
 use Rattle.region_map.proofs.addresses.reserved_from.Goals as goal
 
 pub returns : goal.returns

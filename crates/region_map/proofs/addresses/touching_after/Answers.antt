@@ -2,10 +2,9 @@
 use Rattle.region_map.proofs.RecordLaws.{after_yes, after_no}
 use Rattle.region_map.specs.Map.{count}
 use Rattle.region_map.specs.Search.{touching_after}
-use borrow.Author.Tests.{not-true, not-false}
 use native.Mathlib.Omega.{arith}
 use mathlib.Core.Path.{◌≡◌, refl, sym, ◌∙◌, ap}
-use Prim.Native.Nat.{◌≤◌, ◌-◌, ◌+◌}
+use Prim.Native.Nat.{◌-◌, ◌+◌}
 use Rattle.region_map.proofs.addresses.touching_after.Goals as goal
 
 pub loop-j-init : goal.loop-j-init

@@ -1,11 +1,8 @@
 -- `region_map::addresses::touching_after`: the records before j have permitted up to the address where those from j on go on.
-use Rattle.region_map.proofs.RecordLaws.{after_yes, after_no}
 use Rattle.region_map.specs.Map.{count}
 use Rattle.region_map.specs.Search.{touching_after}
-use borrow.Author.Tests.{not-true, not-false}
-use native.Mathlib.Omega.{arith}
-use mathlib.Core.Path.{◌≡◌, refl, sym, ◌∙◌, ap}
-use Prim.Native.Nat.{◌≤◌, ◌-◌, ◌+◌}
+use mathlib.Core.Path.{◌≡◌}
+use Prim.Native.Nat.{◌≤◌, ◌-◌}
 use Rattle.region_map.proofs.addresses.touching_after.Given as goal
 
 abbrev pub invariant-loop-j : goal.invariant-loop-j

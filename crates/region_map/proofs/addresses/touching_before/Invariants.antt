@@ -1,10 +1,7 @@
 -- `region_map::addresses::touching_before`: the records from j on have permitted up to the address where those before j go on.
-use Rattle.region_map.proofs.RecordLaws.{before_yes, before_no}
 use Rattle.region_map.specs.Search.{touching_before}
-use borrow.Author.Tests.{not-true, not-false}
-use native.Mathlib.Omega.{arith}
-use mathlib.Core.Path.{◌≡◌, refl, sym, ◌∙◌, ap}
-use Prim.Native.Nat.{◌≤◌, ◌-◌}
+use mathlib.Core.Path.{◌≡◌}
+use Prim.Native.Nat.{◌≤◌}
 use Rattle.region_map.proofs.addresses.touching_before.Given as goal
 
 abbrev pub invariant-loop-j : goal.invariant-loop-j

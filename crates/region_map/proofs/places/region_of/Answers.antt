@@ -4,7 +4,6 @@ use Rattle.region_map.specs.Search.{region_in, region_of}
 use Rattle.region_map.proofs.RecordLaws.{HeldBy, holder_only}
 use native.Mathlib.Omega.{arith}
 use mathlib.Core.Path.{sym, ◌∙◌, ap}
-use borrow.Author.Rules.{rules}
 use Rattle.region_map.proofs.places.region_of.Goals as goal
 use Rattle.region_map.proofs.places.region_of.Goals.{In-Index}
 

@@ -1,9 +1,6 @@
 -- `region_map::places::size_before`: after i turns the sum is that of the first i records.
-use Rattle.region_map.proofs.RecordLaws.{size_yes, size_no}
 use Rattle.region_map.specs.Map.{size_before}
-use native.Mathlib.Omega.{arith}
-use mathlib.Core.Logic.{⊎_elim}
-use mathlib.Core.Path.{◌≡◌, refl, sym, ◌∙◌}
+use mathlib.Core.Path.{◌≡◌}
 use Prim.Native.Nat.{◌≤◌, ◌-◌, ◌*◌, ◌^◌}
 use Rattle.region_map.proofs.places.size_before.Given as goal
 

@@ -1,6 +1,4 @@
 -- `region_map::records::clashes`: a record that is not permitted clashes with none.
-use borrow.Author.Tests.{not-true, not-false}
-use borrow.Author.Rules.{rules}
 use Rattle.region_map.proofs.records.clashes.Goals as goal
 
 pub returns-then-not-is_permitted : goal.returns-then-not-is_permitted

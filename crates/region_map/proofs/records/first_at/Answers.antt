@@ -1,6 +1,5 @@
 -- `region_map::records::first_at`: the word after a record's mark, kind and zero byte.
 use native.Mathlib.Omega.{arith}
-use borrow.Author.Rules.{rules}
 use Rattle.words.specs.Word.{word_at}
 use Rattle.region_map.proofs.records.first_at.Goals as goal
 

@@ -1,9 +1,8 @@
 -- `region_map::records::first_fault`: the first i records are sound, so that the first fault is that of the others.
-use Prim.Native.Nat.{◌≤◌, ◌-◌, ◌%◌}
+use Prim.Native.Nat.{◌-◌, ◌%◌}
 use Rattle.region_map.proofs.FaultLaws.{fault_at, fault_no}
 use Rattle.region_map.specs.Map.{record_size, map_limit, count, map_fault, fault_from}
-use Rattle.region_map.specs.Search.{Within}
-use borrow.Author.Tests.{ne_eqb, eq-eqb, lt-leb, le-leb, not-true, not-false}
+use borrow.Author.Tests.{ne_eqb, eq-eqb, lt-leb, le-leb}
 use lib.ListN.{length}
 use native.Mathlib.Omega.{arith}
 use mathlib.Core.Path.{◌≡◌, refl, sym, ◌∙◌}
@@ -42,13 +41,12 @@ pub span_with-span-requires : goal.span_with-span-requires
 span_with-span-requires c = (omega arith, c.loop-i.invariant.3)
 
 pub loop-i-preserved : goal.loop-i-preserved
-loop-i-preserved c =
-    (
-      omega arith,
-      refl,
-      c.loop-i.invariant.2 ∙ fault_no _ _ _ c.loop-i-test.true (sym c.if-not-is_sound.false ∙ c.is_sound.ensures),
-      c.span_with-span.ensures,
-    )
+loop-i-preserved c = (
+  omega arith,
+  refl,
+  c.loop-i.invariant.2 ∙ fault_no _ _ _ c.loop-i-test.true (sym c.if-not-is_sound.false ∙ c.is_sound.ensures),
+  c.span_with-span.ensures,
+)
 
 pub returns : goal.returns
 unfolding fault_from

@@ -1,12 +1,8 @@
 -- `region_map::records::first_fault`: the first i records are sound, so that the first fault is that of the others.
-use Prim.Native.Nat.{◌≤◌, ◌-◌, ◌%◌}
-use Rattle.region_map.proofs.FaultLaws.{fault_at, fault_no}
-use Rattle.region_map.specs.Map.{record_size, map_limit, count, map_fault, fault_from}
+use Prim.Native.Nat.{◌≤◌, ◌-◌}
+use Rattle.region_map.specs.Map.{count, map_fault, fault_from}
 use Rattle.region_map.specs.Search.{Within}
-use borrow.Author.Tests.{ne_eqb, eq-eqb, lt-leb, le-leb, not-true, not-false}
-use lib.ListN.{length}
-use native.Mathlib.Omega.{arith}
-use mathlib.Core.Path.{◌≡◌, refl, sym, ◌∙◌}
+use mathlib.Core.Path.{◌≡◌}
 use Rattle.region_map.proofs.records.first_fault.Given as goal
 
 abbrev pub invariant-loop-i : goal.invariant-loop-i

@@ -1,6 +1,5 @@
 -- `region_map::records::is_known`: the kind is permitted, or else reserved.
 use Rattle.region_map.specs.Map.{known}
-use borrow.Author.Rules.{rules}
 use Rattle.region_map.proofs.records.is_known.Goals as goal
 
 pub returns-then-is_permitted : goal.returns-then-is_permitted

@@ -1,7 +1,6 @@
 -- `region_map::records::is_marked`: the two bytes of the mark are looked at one after the other.
 use Rattle.region_map.specs.Map.{marked}
 use borrow.Author.Tests.{ne_eqb, eq-eqb}
-use borrow.Author.Rules.{rules}
 use Rattle.region_map.proofs.records.is_marked.Goals as goal
 
 pub returns-then-map-i-ne-MARK_FIRST : goal.returns-then-map-i-ne-MARK_FIRST

@@ -2,7 +2,6 @@
 use Rattle.region_map.specs.Map.{permitted}
 use borrow.Author.Tests.{eq-eqb, ne_eqb}
 use mathlib.Core.Path.{sym, ◌∙◌}
-use borrow.Author.Rules.{rules}
 use Rattle.region_map.proofs.records.is_permitted.Goals as goal
 
 pub returns-then-kind-eq-PERMITTED : goal.returns-then-kind-eq-PERMITTED

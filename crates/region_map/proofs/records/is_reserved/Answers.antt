@@ -1,6 +1,5 @@
 -- `region_map::records::is_reserved`: the code's test is the definition.
 use Rattle.region_map.specs.Map.{reserved}
-use borrow.Author.Rules.{rules}
 use Rattle.region_map.proofs.records.is_reserved.Goals as goal
 
 pub returns : goal.returns

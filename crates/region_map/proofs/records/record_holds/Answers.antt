@@ -2,7 +2,6 @@
 use Rattle.region_map.specs.Map.{first_at, holds}
 use native.Mathlib.Omega.{arith}
 use borrow.Author.Tests.{lt-leb, le-leb}
-use borrow.Author.Rules.{rules}
 use Rattle.region_map.proofs.records.record_holds.Goals as goal
 
 pub returns-then-address-first_at : goal.returns-then-address-first_at

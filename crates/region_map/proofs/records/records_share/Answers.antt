@@ -2,7 +2,6 @@
 use Rattle.region_map.specs.Map.{first_at, end_at, shares}
 use native.Mathlib.Omega.{arith}
 use borrow.Author.Tests.{lt-ltb, le-ltb}
-use borrow.Author.Rules.{rules}
 use Rattle.region_map.proofs.records.records_share.Goals as goal
 
 pub returns-then-end_at-first_at : goal.returns-then-end_at-first_at

@@ -3,7 +3,6 @@ use Rattle.region_map.proofs.FaultLaws.{shares_at, shares_no, shares_below, shar
 use Rattle.region_map.specs.Map.{shares_any}
 use native.Mathlib.Omega.{arith}
 use mathlib.Core.Path.{◌≡◌, refl, sym, ◌∙◌}
-use Prim.Native.Nat.{◌≤◌}
 use Rattle.region_map.proofs.records.shares_earlier.Goals as goal
 
 pub returns-then-span-first_at : goal.returns-then-span-first_at

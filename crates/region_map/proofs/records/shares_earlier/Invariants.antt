@@ -1,8 +1,6 @@
 -- `region_map::records::shares_earlier`: outside the span no record shares an address; else the records from j on share none with record i.
-use Rattle.region_map.proofs.FaultLaws.{shares_at, shares_no, shares_below, shares_above}
 use Rattle.region_map.specs.Map.{shares_any}
-use native.Mathlib.Omega.{arith}
-use mathlib.Core.Path.{◌≡◌, refl, sym, ◌∙◌}
+use mathlib.Core.Path.{◌≡◌}
 use Prim.Native.Nat.{◌≤◌}
 use Rattle.region_map.proofs.records.shares_earlier.Given as goal
 

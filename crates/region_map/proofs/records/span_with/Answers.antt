@@ -1,9 +1,7 @@
 -- `region_map::records::span_with`: a permitted record widens the span to its own addresses.
 use Rattle.region_map.proofs.FaultLaws.{within_no, within_yes}
-use borrow.Author.Tests.{not-true}
 use native.Mathlib.Omega.{arith}
 use mathlib.Core.Path.{sym, ◌∙◌}
-use borrow.Author.Rules.{rules}
 use Rattle.region_map.proofs.records.span_with.Goals as goal
 
 pub returns-then-not-is_permitted : goal.returns-then-not-is_permitted
