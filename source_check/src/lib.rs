@@ -2,19 +2,23 @@
 //! lent map where it stands. No function in it or below it holds a map record
 //! or an array by value, or calls itself.
 //!
-//! The check reads the source of the proved crates, and what `rt mir` prints of
-//! it, which has the types of locals that the source leaves out. Where the two
-//! readings of a function or of a declared type differ it fails.
+//! The check reads the source of the proved crates, and the MIR that
+//! `rt check --generated` prints of it, which has the types of locals that the
+//! source leaves out. Where the two readings of a function or of a declared type
+//! differ it fails.
 
 mod mir;
 mod source;
 
 use source::Source;
 use std::collections::{BTreeMap, BTreeSet};
+use std::env;
 use std::fmt;
 use std::fs;
-use std::path::Path;
-use std::process::Command;
+use std::path::{Path, PathBuf};
+use std::process::{self, Command};
+use std::sync::atomic::{AtomicUsize, Ordering};
+use std::thread;
 
 /// The functions that test addresses: whether one is open, and how far those
 /// from one on are open, are permitted, or are in no reserved record.
@@ -162,59 +166,116 @@ fn crates(root: &Path) -> BTreeSet<String> {
     found
 }
 
-/// What `rt mir` prints of a crate. It proves the crates below it first.
-pub fn printed(root: &Path, name: &str) -> String {
-    let mut command = Command::new("rt");
-    let run = command.args(["mir", name]).current_dir(root).output();
-    let run = run.expect("rt can be run");
-    let errors = String::from_utf8_lossy(&run.stderr);
-    assert!(run.status.success(), "rt mir {name}: {errors}");
-    String::from_utf8(run.stdout).expect("rt prints text")
+/// The MIR of a crate as it is printed.
+#[derive(Clone)]
+pub struct Printed {
+    /// A text for each function, by its full name.
+    functions: BTreeMap<String, String>,
+    /// The names that it may have for functions of the crates below, with their
+    /// own.
+    exports: BTreeMap<String, String>,
 }
 
-/// What `rt mir` prints of each crate.
-pub fn all_printed(root: &Path) -> BTreeMap<String, String> {
-    let names = crates(root).into_iter();
-    let texts = names.map(|name| (name.clone(), printed(root, &name)));
-    texts.collect()
+/// Has the kit print the MIR of a crate's functions. They need not be proved;
+/// the crates below are proved first. The kit writes into a folder outside the
+/// repository, where it wants no file of antt that is not a crate's.
+pub fn printed(root: &Path, name: &str) -> Printed {
+    let mut source = Source::default();
+    for name in crates(root) {
+        source.read_folder(root, &format!("crates/{name}/src"), &name);
+    }
+    let own = format!("{name}::");
+    let functions = source.functions.into_iter();
+    let functions = functions.filter(|(full, _)| full.starts_with(&own));
+    let functions = functions.filter(|(_, function)| function.has_body);
+    let names: Vec<String> = functions.map(|(full, _)| full).collect();
+
+    let folder = Folder::new(&format!("mir-{name}"));
+    // A call of C is reported here, so that the kit need not refuse it.
+    let mut command = Command::new("rt");
+    command.env("RT_ALLOW_C", "1");
+    command.args(["check", "--generated"]).arg(folder.path());
+    for full in &names {
+        command.args(["--start", within(full)]);
+    }
+    let run = command.current_dir(root.join("crates").join(name)).output();
+    let run = run.expect("rt can be run");
+    let said = String::from_utf8_lossy(&run.stdout) + String::from_utf8_lossy(&run.stderr);
+    assert!(run.status.success(), "rt check --generated, {name}: {said}");
+
+    let proofs = folder.path().join(format!("Rattle-{name}-proofs"));
+    let texts = names.into_iter().map(|full| {
+        let path = format!("{}/Code/Mir.antt", within(&full).replace("::", "/"));
+        let text = fs::read_to_string(proofs.join(path));
+        let text = text.unwrap_or_else(|error| panic!("no MIR of {full}: {error}"));
+        (full, text)
+    });
+    Printed {
+        functions: texts.collect(),
+        exports: source.exports,
+    }
+}
+
+/// The MIR of all the crates, as it is printed, side by side.
+pub fn all_printed(root: &Path) -> BTreeMap<String, Printed> {
+    let names = crates(root);
+    thread::scope(|scope| {
+        let mut running = Vec::new();
+        for name in &names {
+            running.push((name, scope.spawn(move || printed(root, name))));
+        }
+        let ended = running.into_iter().map(|(name, text)| (name, text.join()));
+        let texts = ended.map(|(name, text)| (name.clone(), text.expect("its MIR is printed")));
+        texts.collect()
+    })
+}
+
+/// A name without that of its crate.
+fn within(name: &str) -> &str {
+    name.split_once("::").map_or(name, |(_, rest)| rest)
+}
+
+/// A folder of this process among the temporary files, which goes with the
+/// value.
+pub struct Folder(PathBuf);
+
+impl Folder {
+    pub fn new(label: &str) -> Folder {
+        static COUNT: AtomicUsize = AtomicUsize::new(0);
+        let number = COUNT.fetch_add(1, Ordering::Relaxed);
+        let name = format!("source_check-{}-{number}-{label}", process::id());
+        let path = env::temp_dir().join(name);
+        fs::create_dir(&path).expect("a folder can be made");
+        Folder(path)
+    }
+
+    pub fn path(&self) -> &Path {
+        &self.0
+    }
+}
+
+impl Drop for Folder {
+    fn drop(&mut self) {
+        let _ = fs::remove_dir_all(&self.0);
+    }
 }
 
 impl Program {
-    /// Reads the crates of a repository, with what `rt mir` prints of each.
-    /// That has the functions of the crates below it too, which are left out.
-    pub fn read(root: &Path, printed: &BTreeMap<String, String>) -> Program {
+    /// Reads the crates of a repository, with the MIR of each.
+    pub fn read(root: &Path, printed: &BTreeMap<String, Printed>) -> Program {
         let mut program = Program {
             source: Source::default(),
             mir: BTreeMap::new(),
         };
-        for (name, text) in printed {
-            let own = format!("{name}::");
-            let functions = mir::read(text).into_iter();
-            let functions = functions.filter(|(function, _)| function.starts_with(&own));
-            program.mir.extend(functions);
-            program.read_folder(root, &format!("crates/{name}/src"), name);
+        for (name, printed) in printed {
+            for (full, text) in &printed.functions {
+                let function = mir::read(text, &printed.exports);
+                program.mir.insert(full.clone(), function);
+            }
+            let folder = format!("crates/{name}/src");
+            program.source.read_folder(root, &folder, name);
         }
         program
-    }
-
-    /// Reads the source files in a folder: `lib.rt` for the module itself,
-    /// another file for a module in it, a folder for the modules below that.
-    fn read_folder(&mut self, root: &Path, folder: &str, module: &str) {
-        for entry in fs::read_dir(root.join(folder)).expect("a source folder can be read") {
-            let entry = entry.expect("a source folder can be read");
-            let name = entry.file_name().to_string_lossy().to_string();
-            let inner = format!("{folder}/{name}");
-            if entry.path().is_dir() {
-                self.read_folder(root, &inner, &format!("{module}::{name}"));
-            } else if let Some(stem) = name.strip_suffix(".rt") {
-                let text = fs::read_to_string(entry.path()).expect("a source file can be read");
-                let module = match stem {
-                    "lib" => module.to_string(),
-                    _ => format!("{module}::{stem}"),
-                };
-                self.source.read(&module, &inner, &text);
-            }
-        }
     }
 
     /// The file and the line of a function.

@@ -1,5 +1,6 @@
-//! Reads what `rt mir` prints: of each function the types of its result, its
-//! parameters and its other locals, and the full names of what it calls.
+//! Reads the MIR of a function as `rt check --generated` prints it: the types
+//! of its result, its parameters and its other locals, and the full names of
+//! what it calls.
 
 use crate::Type;
 use std::collections::{BTreeMap, BTreeSet};
@@ -14,34 +15,41 @@ pub struct Function {
     pub types: BTreeMap<String, Vec<Type>>,
 }
 
+/// A call through an address, and where one is taken.
+const ADDRESSES: [&str; 3] = ["Syntax.call_v", "Syntax.fn_addr", "Syntax.vtable"];
+
 /// A word, or trees in parentheses.
 enum Tree {
     Word(String),
     List(Vec<Tree>),
 }
 
-/// The functions of `program (lcons function ..) main`, by full name. One that
-/// is defined in C has no body here, and is left out.
-pub fn read(text: &str) -> BTreeMap<String, Function> {
-    let program = tree(text);
-    let functions = list(&program.parts()[1]).into_iter();
-    let functions = functions.filter(|tree| tree.parts()[2].parts()[5].head() != "foreign");
-    functions
-        .map(|tree| (tree.parts()[1].name(), function(tree)))
-        .collect()
+/// The definitions of a module, and the functions that it imports, by the words
+/// that stand for their names.
+struct Module {
+    definitions: BTreeMap<String, Tree>,
+    imports: BTreeMap<String, String>,
 }
 
-/// `(fn-def name (fnItem _ _ parameters locals body) types)`. The first local
-/// is the result, and there may be no types.
-fn function(definition: &Tree) -> Function {
-    let item = definition.parts()[2].parts();
-    let count: usize = item[3].text().parse().expect("parameters are counted");
-    let mut locals = list(&item[4])
-        .into_iter()
-        .map(|local| type_of(&local.parts()[1]));
+/// The first local is the result. Declared types stand under their names in
+/// the definitions that begin with `by_name`, and there may be none. A function
+/// that its crate exports is printed by the name of the export: `exports` has
+/// its own.
+pub fn read(text: &str, exports: &BTreeMap<String, String>) -> Function {
+    let module = Module::read(text, exports);
+    let (function, prefix) = match module.definitions.contains_key("by_name") {
+        true => ("by_name", "by_name-"),
+        false => ("function", ""),
+    };
+    let count = module.count(function);
+    let locals = list(&module.definitions[&format!("{prefix}locals")]);
+    let mut locals = locals.into_iter().map(|local| type_of(&local.parts()[1]));
     let mut calls = BTreeSet::new();
-    find_calls(&item[5], &mut calls);
-    let types = definition.parts().get(3).map_or(Vec::new(), list);
+    for definition in module.definitions.values() {
+        module.find_calls(definition, &mut calls);
+    }
+    let table = module.definitions.get("table");
+    let types = table.map_or(Vec::new(), list);
     Function {
         result: locals.next().expect("the first local is the result"),
         parameters: locals.by_ref().take(count).collect(),
@@ -51,32 +59,79 @@ fn function(definition: &Tree) -> Function {
     }
 }
 
-/// A direct call gives the name of its function. Another call, and a function
-/// that is named without a call, are kept as they are printed, which is no
-/// function's name.
-fn find_calls(tree: &Tree, calls: &mut BTreeSet<String>) {
-    let rest = match tree.parts() {
-        [word, callee, rest @ ..] if word.head() == "call" => {
-            calls.insert(called(callee).unwrap_or(callee.text()));
-            rest
+impl Module {
+    /// Its lines `use path` or `use path as word`, and its definitions, each of
+    /// which begins at the start of a line with a name and `=`.
+    fn read(text: &str, exports: &BTreeMap<String, String>) -> Module {
+        let mut module = Module {
+            definitions: BTreeMap::new(),
+            imports: BTreeMap::new(),
+        };
+        let mut name = String::new();
+        let mut body = String::new();
+        for line in text.lines().chain(["use"]) {
+            if line.starts_with([' ', ')', '}']) {
+                body += line;
+                body += "\n";
+                continue;
+            }
+            if !name.is_empty() {
+                let body = std::mem::take(&mut body);
+                module
+                    .definitions
+                    .insert(std::mem::take(&mut name), tree(&body));
+            }
+            let words: Vec<&str> = line.split_whitespace().collect();
+            match words[..] {
+                ["use", path] => module.import(path, last(path), exports),
+                ["use", path, "as", word] => module.import(path, word, exports),
+                [defined, "=", ..] => {
+                    name = defined.to_string();
+                    body = words[2..].join(" ") + "\n";
+                }
+                _ => {}
+            }
         }
-        [word, ..] if word.head() == "fnRef" => {
-            calls.insert(tree.text());
-            &[]
-        }
-        parts => parts,
-    };
-    rest.iter().for_each(|part| find_calls(part, calls));
-}
+        module
+    }
 
-/// The name in `(direct (fnRef name))`.
-fn called(callee: &Tree) -> Option<String> {
-    let [direct, function] = callee.parts() else {
-        return None;
-    };
-    match function.parts() {
-        [word, name] if direct.head() == "direct" && word.head() == "fnRef" => Some(name.name()),
-        _ => None,
+    /// `Rattle.crate.proofs.module.function.Symbol` has the function's name.
+    fn import(&mut self, path: &str, word: &str, exports: &BTreeMap<String, String>) {
+        let inner = path.strip_prefix("Rattle.");
+        let inner = inner.and_then(|path| path.strip_suffix(".Symbol"));
+        if let Some((crate_name, function)) = inner.and_then(|path| path.split_once(".proofs.")) {
+            let name = format!("{crate_name}::{}", function.replace('.', "::"));
+            let name = exports.get(&name).cloned().unwrap_or(name);
+            self.imports.insert(format!("{word}.name"), name);
+        }
+    }
+
+    /// `params = count;` in a function's record.
+    fn count(&self, function: &str) -> usize {
+        let words = self.definitions[function].words();
+        let at = words.iter().position(|word| *word == "params");
+        let count = words[at.expect("parameters are counted") + 2];
+        let count = count.trim_end_matches(';').parse();
+        count.expect("a count is a number")
+    }
+
+    /// A direct call gives the name of its function. Another call, and a
+    /// function whose address is taken, are kept as they are printed, which is
+    /// no function's name.
+    fn find_calls(&self, tree: &Tree, calls: &mut BTreeSet<String>) {
+        let rest = match tree.parts() {
+            [word, callee, rest @ ..] if word.is("Syntax.call") => {
+                let name = self.imports.get(&callee.text());
+                calls.insert(name.cloned().unwrap_or(callee.text()));
+                rest
+            }
+            [word, ..] if ADDRESSES.contains(&word.text().as_str()) => {
+                calls.insert(tree.text());
+                &[]
+            }
+            parts => parts,
+        };
+        rest.iter().for_each(|part| self.find_calls(part, calls));
     }
 }
 
@@ -84,45 +139,58 @@ fn called(callee: &Tree) -> Option<String> {
 
 fn type_of(tree: &Tree) -> Type {
     let parts = tree.parts();
-    match tree.head() {
-        "tyBool" => Type::Bool,
-        "tyUnit" => Type::Unit,
-        "tyInt" => Type::Number(parts[1].text().parse().expect("a width is a number")),
-        "tyArray" => Type::Array(Box::new(type_of(&parts[1])), parts[2].parts()[1].text()),
-        "tyNamed" => Type::Named(parts[1].parts()[1].name()),
-        "tyPtr" => Type::Place,
-        "tyRef" if type_of(&parts[3]) == Type::Number(8) => match parts[2].head() {
+    match last(tree.head()) {
+        "ty_bool" => Type::Bool,
+        "ty_unit" => Type::Unit,
+        "ty_int" => Type::Number(width(&parts[1])),
+        "ty_array" => Type::Array(Box::new(type_of(&parts[1])), parts[2].text()),
+        "ty_named" => Type::Named(symbol(&parts[1].parts()[0])),
+        "ty_ptr" => Type::Place,
+        "ty_ref" if type_of(&parts[3]) == Type::Number(8) => match last(parts[2].head()) {
             "mut" => Type::WrittenPlace,
             _ => Type::Place,
         },
-        "tyStruct" => slice(&parts[1], &parts[2]).unwrap_or(Type::Other(tree.text())),
+        "ty_struct" => slice(&parts[1], &parts[2]).unwrap_or(Type::Other(tree.text())),
         _ => Type::Other(tree.text()),
     }
+}
+
+/// `Syntax.w64`.
+fn width(tree: &Tree) -> u32 {
+    let bits = last(tree.head()).trim_start_matches('w').parse();
+    bits.expect("a width is a number")
 }
 
 /// A lent slice of bytes: where its first byte stands, and its length.
 fn slice(name: &Tree, fields: &Tree) -> Option<Type> {
     let fields: Vec<Type> = list(fields).into_iter().map(type_of).collect();
-    match (name.name().as_str(), &fields[..]) {
+    match (symbol(name).as_str(), &fields[..]) {
         ("&[]", [Type::Place, Type::Number(64)]) => Some(Type::Slice),
         ("&[]", [Type::WrittenPlace, Type::Number(64)]) => Some(Type::WrittenSlice),
         _ => None,
     }
 }
 
-/// `(pair name (fields types))` or `(pair name (variants lists))`.
-fn declared(pair: &Tree) -> (String, Vec<Type>) {
-    let [_, name, held] = pair.parts() else {
-        panic!("a declared type has a name: {}", pair.text());
+/// `(name, lifetimes, Table.fields types)` or `(name, lifetimes, Table.variants lists)`.
+fn declared(entry: &Tree) -> (String, Vec<Type>) {
+    let [name, _, held] = entry.parts() else {
+        panic!("a declared type has a name: {}", entry.text());
     };
     let types = match held.parts() {
-        [word, types] if word.head() == "fields" => list(types),
-        [word, cases] if word.head() == "variants" => {
+        [word, types] if word.is("Table.fields") => list(types),
+        [word, cases] if word.is("Table.variants") => {
             list(cases).into_iter().flat_map(list).collect()
         }
-        _ => vec![held],
+        _ => panic!("no fields and no variants: {}", held.text()),
     };
-    (name.name(), types.into_iter().map(type_of).collect())
+    (symbol(name), types.into_iter().map(type_of).collect())
+}
+
+/// A name, as the list of its bytes.
+fn symbol(tree: &Tree) -> String {
+    let bytes = list(tree).into_iter();
+    let bytes = bytes.map(|byte| byte.text().parse().expect("a byte is a number"));
+    String::from_utf8(bytes.collect()).expect("a name is text")
 }
 
 // ---- trees
@@ -143,6 +211,10 @@ impl Tree {
         }
     }
 
+    fn is(&self, word: &str) -> bool {
+        matches!(self, Tree::Word(own) if own == word)
+    }
+
     /// A tree as it is printed.
     fn text(&self) -> String {
         match self {
@@ -154,14 +226,21 @@ impl Tree {
         }
     }
 
-    /// A name, without its quotes.
-    fn name(&self) -> String {
-        self.text().trim_matches('"').to_string()
+    fn words(&self) -> Vec<&str> {
+        match self {
+            Tree::Word(word) => vec![word],
+            Tree::List(parts) => parts.iter().flat_map(Tree::words).collect(),
+        }
     }
 }
 
-/// The elements of `(lcons first rest)`, down to `lnil`; lists of types have
-/// other names for the two.
+/// A word of a path, after its last point.
+fn last(path: &str) -> &str {
+    path.rsplit('.').next().unwrap_or(path)
+}
+
+/// The elements of `(List.◌∷◌ first rest)`, down to `List.[]`; lists of types
+/// have other names for the two.
 fn list(tree: &Tree) -> Vec<&Tree> {
     let mut elements = Vec::new();
     let mut rest = tree;
@@ -170,26 +249,55 @@ fn list(tree: &Tree) -> Vec<&Tree> {
         rest = after;
     }
     assert!(
-        ["lnil", "tnil", "ttnil"].contains(&rest.head()),
+        ["[]", "tnil", "ttnil"].contains(&last(rest.head())),
         "no list: {}",
         rest.text()
     );
     elements
 }
 
+/// A definition: a word and what it is applied to, each in parentheses or a
+/// word. The parts of a tuple stand between commas, each applied as a whole.
 fn tree(text: &str) -> Tree {
-    let mut open = vec![Vec::new()];
-    let spaced = text.replace('(', " ( ").replace(')', " ) ");
+    let spaced = text
+        .replace('(', " ( ")
+        .replace(')', " ) ")
+        .replace(',', " , ");
+    // Of each bracket that is open: its finished parts, where it has commas, and the words since.
+    let mut open = vec![(Vec::new(), Vec::new())];
     for word in spaced.split_whitespace() {
-        if word == "(" {
-            open.push(Vec::new());
-            continue;
+        match word {
+            "(" => open.push((Vec::new(), Vec::new())),
+            "," => {
+                let (parts, words) = open.last_mut().expect("a bracket was opened");
+                parts.push(applied(std::mem::take(words)));
+            }
+            ")" => {
+                let (mut parts, words) = open.pop().expect("a bracket was opened");
+                let whole = if parts.is_empty() {
+                    applied(words)
+                } else {
+                    if !words.is_empty() {
+                        parts.push(applied(words));
+                    }
+                    Tree::List(parts)
+                };
+                open.last_mut().expect("a bracket was opened").1.push(whole);
+            }
+            _ => {
+                let (_, words) = open.last_mut().expect("a bracket was opened");
+                words.push(Tree::Word(word.to_string()));
+            }
         }
-        let part = match word {
-            ")" => Tree::List(open.pop().expect("a bracket was opened")),
-            _ => Tree::Word(word.to_string()),
-        };
-        open.last_mut().expect("a bracket was opened").push(part);
     }
-    Tree::List(open.pop().expect("every bracket is closed"))
+    let (_, words) = open.pop().expect("every bracket is closed");
+    applied(words)
+}
+
+/// A word alone, or a word and what it is applied to.
+fn applied(mut words: Vec<Tree>) -> Tree {
+    match words.len() {
+        1 => words.remove(0),
+        _ => Tree::List(words),
+    }
 }

@@ -3,11 +3,15 @@
 
 use crate::Type;
 use std::collections::{BTreeMap, BTreeSet};
+use std::fs;
+use std::path::Path;
 
 /// A function as it is written.
 pub struct Function {
     pub file: String,
     pub line: usize,
+    /// A function in C has none.
+    pub has_body: bool,
     pub parameters: Vec<(String, Type)>,
     pub result: Type,
     /// The names that are called, without their paths.
@@ -20,6 +24,8 @@ pub struct Source {
     pub functions: BTreeMap<String, Function>,
     /// What a struct or an enum holds, as it is written.
     pub types: BTreeMap<String, String>,
+    /// What a `pub use` gives another name to: its own name, by the other.
+    pub exports: BTreeMap<String, String>,
 }
 
 struct Token {
@@ -30,6 +36,26 @@ struct Token {
 // ---- declarations
 
 impl Source {
+    /// Reads the source files in a folder: `lib.rt` for the module itself,
+    /// another file for a module in it, a folder for the modules below that.
+    pub fn read_folder(&mut self, root: &Path, folder: &str, module: &str) {
+        for entry in fs::read_dir(root.join(folder)).expect("a source folder can be read") {
+            let entry = entry.expect("a source folder can be read");
+            let name = entry.file_name().to_string_lossy().to_string();
+            let inner = format!("{folder}/{name}");
+            if entry.path().is_dir() {
+                self.read_folder(root, &inner, &format!("{module}::{name}"));
+            } else if let Some(stem) = name.strip_suffix(".rt") {
+                let text = fs::read_to_string(entry.path()).expect("a source file can be read");
+                let module = match stem {
+                    "lib" => module.to_string(),
+                    _ => format!("{module}::{stem}"),
+                };
+                self.read(&module, &inner, &text);
+            }
+        }
+    }
+
     /// Reads the file of a module.
     pub fn read(&mut self, module: &str, file: &str, text: &str) {
         self.read_items(module, file, &tokens(text));
@@ -39,8 +65,11 @@ impl Source {
         let mut at = 0;
         while at < tokens.len() {
             at = match tokens[at].text.as_str() {
+                "use" if at > 0 && tokens[at - 1].text == "pub" => {
+                    self.read_export(module, tokens, at)
+                }
                 "ghost" | "use" | "const" => next(tokens, at, &[";"]) + 1,
-                "#" => past_bracket(tokens, at + 1),
+                "#" => past_bracket(tokens, next(tokens, at + 1, &["["])),
                 "mod" => self.read_module(module, file, tokens, at),
                 "struct" | "enum" => self.read_type(module, tokens, at),
                 "fn" => self.read_function(module, file, tokens, at),
@@ -49,6 +78,24 @@ impl Source {
                 _ => at + 1,
             };
         }
+    }
+
+    /// `pub use inner::name;` or `pub use inner::{name, other};`.
+    fn read_export(&mut self, module: &str, tokens: &[Token], at: usize) -> usize {
+        let end = next(tokens, at, &[";"]);
+        let path = &tokens[at + 1..end];
+        let open = path.iter().position(|token| token.text == "{");
+        let (open, names) = match open {
+            Some(open) => (open, between_commas(inside(path, open, path.len()))),
+            None => (path.len() - 1, vec![&path[path.len() - 1..]]),
+        };
+        let inner = joined(&path[..open]);
+        for name in names.into_iter().map(joined) {
+            let exported = format!("{module}::{name}");
+            self.exports
+                .insert(exported, format!("{module}::{inner}{name}"));
+        }
+        end + 1
     }
 
     /// `mod name;`, or with what is in it: `mod name { .. }`.
@@ -85,6 +132,7 @@ impl Source {
         let function = Function {
             file: file.to_string(),
             line: tokens[at].line,
+            has_body: tokens[body].text == "{",
             parameters: parameters.map(parameter).collect(),
             result: type_of(result.trim_start_matches("->")),
             calls: calls(&tokens[body..end]),

@@ -2,16 +2,17 @@
 //! one of the edits of `edits/` exactly the faults that the edit names.
 //!
 //! An edit is written as those under `must-fail/`, with the crate that it
-//! changes, with any number of lines `new:` after an `old:`, and with a line
-//! `report:` for each fault. One that is allowed has none.
+//! changes, with any number of lines `new:` after an `old:`, with a line
+//! `folder:` for a folder that it adds, and with a line `report:` for each
+//! fault. One that is allowed has none.
 
-use source_check::{all_printed, printed, Program};
+use source_check::{all_printed, printed, Folder, Printed, Program};
 use std::collections::BTreeMap;
 use std::fs;
-use std::os::unix::fs::symlink;
 use std::path::{Path, PathBuf};
 use std::process::Command;
 use std::sync::OnceLock;
+use std::thread;
 
 const REPORTED: [&str; 24] = [
     "array_local",
@@ -42,13 +43,23 @@ const REPORTED: [&str; 24] = [
 
 const ALLOWED: [&str; 1] = ["part_of_the_map"];
 
-/// An edit: the crate that it changes, its lines by their first words, and the
-/// faults to be found.
+/// An edit: the crate that it changes, the folders that it adds to it, its
+/// lines by their first words, and the faults to be found.
 struct Edit {
-    label: String,
+    label: &'static str,
     crate_name: String,
+    folders: Vec<String>,
     lines: Vec<(String, String)>,
     reports: Vec<String>,
+}
+
+/// What is reported where a copy of the repository has an edit: of the copy, of
+/// the copy's source with the MIR of the repository, and of the source of the
+/// repository with the copy's MIR.
+struct Answer {
+    of_copy: Vec<String>,
+    of_source: Vec<String>,
+    of_mir: Vec<String>,
 }
 
 fn package() -> &'static Path {
@@ -59,18 +70,19 @@ fn root() -> PathBuf {
     package().join("..")
 }
 
-/// What `rt mir` prints of each crate as it stands.
-fn as_it_stands() -> &'static BTreeMap<String, String> {
-    static PRINTED: OnceLock<BTreeMap<String, String>> = OnceLock::new();
+/// The MIR of each crate as it stands.
+fn as_it_stands() -> &'static BTreeMap<String, Printed> {
+    static PRINTED: OnceLock<BTreeMap<String, Printed>> = OnceLock::new();
     PRINTED.get_or_init(|| all_printed(&root()))
 }
 
-fn edit(label: &str) -> Edit {
+fn edit(label: &'static str) -> Edit {
     let path = package().join("edits").join(format!("{label}.edit"));
     let text = fs::read_to_string(path).expect("the edit can be read");
     let mut edit = Edit {
-        label: label.to_string(),
+        label,
         crate_name: String::new(),
+        folders: Vec::new(),
         lines: Vec::new(),
         reports: Vec::new(),
     };
@@ -79,6 +91,7 @@ fn edit(label: &str) -> Edit {
         let rest = rest.strip_prefix(' ').unwrap_or(rest).to_string();
         match word {
             "crate" => edit.crate_name = rest,
+            "folder" => edit.folders.push(rest),
             "report" => edit.reports.push(rest),
             _ => edit.lines.push((word.to_string(), rest)),
         }
@@ -89,6 +102,9 @@ fn edit(label: &str) -> Edit {
 /// Makes the changes of an edit in a crate's folder. An old line stands in its
 /// file once.
 fn change(edit: &Edit, folder: &Path) {
+    for added in &edit.folders {
+        fs::create_dir(folder.join(added)).expect("a folder can be made");
+    }
     for file in edit.lines.chunk_by(|_, (word, _)| word != "file") {
         let path = folder.join(&file[0].1);
         let text = fs::read_to_string(&path).expect("the file to edit is there");
@@ -113,38 +129,68 @@ fn change(edit: &Edit, folder: &Path) {
     }
 }
 
-/// A copy of the repository with an edit, in a folder of its own. What is
-/// proved there is what the repository has proved.
-fn copy(edit: &Edit, folder: &str) -> PathBuf {
-    // Printing them proves what the edited crate stands on.
-    as_it_stands();
-    let copy = Path::new(env!("CARGO_TARGET_TMPDIR"))
-        .join(folder)
-        .join(&edit.label);
-    let _ = fs::remove_dir_all(&copy);
-    fs::create_dir_all(copy.join("target")).expect("a folder can be made");
-    for part in ["crates.txt", "crates", "target/stamp"] {
-        let (from, to) = (root().join(part), copy.join(part));
-        let status = Command::new("cp").arg("-r").args([from, to]).status();
-        assert!(status.expect("cp can be run").success());
+/// Copies the crates and makes the edit there.
+fn copy(edit: &Edit, to: &Path) {
+    let crates = root().join("crates");
+    for entry in fs::read_dir(&crates).expect("there are crates") {
+        let name = entry.expect("there are crates").file_name();
+        let folder = to.join("crates").join(&name);
+        fs::create_dir_all(&folder).expect("a folder can be made");
+        for part in ["src", "specs", "proofs"] {
+            let from = crates.join(&name).join(part);
+            if from.is_dir() {
+                let status = Command::new("cp").arg("-r").arg(from).arg(&folder).status();
+                assert!(status.expect("cp can be run").success());
+            }
+        }
     }
-    let proved = fs::canonicalize(root().join("target/rlib")).expect("the crates are proved");
-    symlink(proved, copy.join("target/rlib")).expect("a link can be made");
-    change(edit, &copy.join("crates").join(&edit.crate_name));
-    copy
-}
-
-/// What `rt mir` prints where one crate has the edit.
-fn with_edit(edit: &Edit, copy: &Path) -> BTreeMap<String, String> {
-    let mut texts = as_it_stands().clone();
-    texts.insert(edit.crate_name.clone(), printed(copy, &edit.crate_name));
-    texts
+    fs::copy(root().join("crates.txt"), to.join("crates.txt")).expect("a file can be copied");
+    change(edit, &to.join("crates").join(&edit.crate_name));
 }
 
 fn reports(program: &Program) -> Vec<String> {
     let faults = program.check().err().unwrap_or_default().into_iter();
     let texts = faults.map(|fault| format!("{}: {}", fault.function, fault.what));
     texts.collect()
+}
+
+fn answer(edit: &Edit) -> Answer {
+    let folder = Folder::new(edit.label);
+    copy(edit, folder.path());
+    let mut edited = as_it_stands().clone();
+    let own = printed(folder.path(), &edit.crate_name);
+    edited.insert(edit.crate_name.clone(), own);
+    Answer {
+        of_copy: reports(&Program::read(folder.path(), &edited)),
+        of_source: reports(&Program::read(folder.path(), as_it_stands())),
+        of_mir: reports(&Program::read(&root(), &edited)),
+    }
+}
+
+/// What is answered to some edits, by their names.
+fn answers_to(labels: &[&'static str]) -> BTreeMap<&'static str, Answer> {
+    let answers = labels.iter().map(|label| (*label, answer(&edit(label))));
+    answers.collect()
+}
+
+/// What is answered to each edit. A few are tried side by side.
+fn answers() -> &'static BTreeMap<&'static str, Answer> {
+    static ANSWERS: OnceLock<BTreeMap<&'static str, Answer>> = OnceLock::new();
+    ANSWERS.get_or_init(|| {
+        // Printing them proves what the edited crates stand on.
+        as_it_stands();
+        let labels: Vec<&'static str> = REPORTED.into_iter().chain(ALLOWED).collect();
+        let lanes = thread::available_parallelism().map_or(1, |count| count.get().min(4));
+        thread::scope(|scope| {
+            let mut running = Vec::new();
+            for part in labels.chunks(labels.len().div_ceil(lanes)) {
+                running.push(scope.spawn(move || answers_to(part)));
+            }
+            let ended = running.into_iter().map(|lane| lane.join());
+            let found = ended.flat_map(|found| found.expect("each edit is answered"));
+            found.collect()
+        })
+    })
 }
 
 #[test]
@@ -157,10 +203,8 @@ fn no_fault_as_it_stands() {
 fn each_edit_is_answered() {
     for label in REPORTED.iter().chain(&ALLOWED) {
         let edit = edit(label);
-        let copy = copy(&edit, "edited");
-        let program = Program::read(&copy, &with_edit(&edit, &copy));
         assert_eq!(edit.reports.is_empty(), ALLOWED.contains(label), "{label}");
-        assert_eq!(reports(&program), edit.reports, "{label}");
+        assert_eq!(answers()[label].of_copy, edit.reports, "{label}");
     }
     let files = fs::read_dir(package().join("edits")).expect("there are edits");
     assert_eq!(files.count(), REPORTED.len() + ALLOWED.len());
@@ -169,12 +213,9 @@ fn each_edit_is_answered() {
 /// The source of an edited copy, and the MIR of the repository.
 #[test]
 fn another_source() {
-    let reports_of = |label: &str| {
-        let copy = copy(&edit(label), "another_source");
-        reports(&Program::read(&copy, as_it_stands()))
-    };
+    let reports_of = |label: &str| &answers()[label].of_source;
     assert_eq!(
-        reports_of("calls_itself"),
+        *reports_of("calls_itself"),
         ["region_map::addresses::touching_after: the call of touching_after is not resolved"],
     );
     let what = "the source and the MIR differ in its parameters or its result";
@@ -185,11 +226,7 @@ fn another_source() {
 /// The source of the repository, and the MIR of an edited copy.
 #[test]
 fn another_mir() {
-    let reports_of = |label: &str| {
-        let edit = edit(label);
-        let copy = copy(&edit, "another_mir");
-        reports(&Program::read(&root(), &with_edit(&edit, &copy)))
-    };
+    let reports_of = |label: &str| &answers()[label].of_mir;
     let report =
         "region_map::records::kind_at: the call of region_map::records::head_of is not resolved";
     assert!(reports_of("array_passed_on").contains(&report.to_string()));
