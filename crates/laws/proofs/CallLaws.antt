@@ -30,16 +30,24 @@ pub turn_calls : (o : ByteOrder) (m a b out whole turn : List ℕ) → Bytes a �
     → w ≡ load_answer o m (take j.length out') (length whole) → whole' ≡ load_memory o m (take j.length out') whole
     → f ≡ load_answer o m a (length turn) → turn₁ ≡ load_memory o m a turn
     → g ≡ load_answer o m b (length turn₁) → turn' ≡ load_memory o m b turn₁
-    → (record { joined = j; whole = w; first = f; second = g } ≡ turn_answers o m a b out whole turn)
-    × ((out' ≡ join_output o a b out)
-    × ((whole' ≡ load_memory o m (join_in o a b out) whole)
-    × ((turn' ≡ load_memory o m b (load_memory o m a turn))
-    × (Joinable o a b out → Fitting m whole → whole ≡ turn
-    → InTurn o m a b out (record { joined = j; whole = w; first = f; second = g }) out' whole' turn'))))
+    → record {
+      value : record { joined = j; whole = w; first = f; second = g } ≡ turn_answers o m a b out whole turn;
+      output_after : out' ≡ join_output o a b out;
+      join_memory_after : whole' ≡ load_memory o m (join_in o a b out) whole;
+      turn_memory_after : turn' ≡ load_memory o m b (load_memory o m a turn);
+      in_turn : Joinable o a b out → Fitting m whole → whole ≡ turn
+      → InTurn o m a b out (record { joined = j; whole = w; first = f; second = g }) out' whole' turn';
+    }
 unfolding join_in
 turn_calls o m a b out whole turn p q j out' w f g whole' turn₁ turn' ej eo ew e1 ef et eg eu =
     rw (eu, eg, et, ef, e1, ew, eo, ej)
-    (refl, (refl, (refl, (refl, λ sides fitting same. rw (← same) (demand_3.two_tables o a b out m whole p q sides fitting)))))
+    record {
+      value = refl;
+      output_after = refl;
+      join_memory_after = refl;
+      turn_memory_after = refl;
+      in_turn = λ sides fitting same. rw (← same) (demand_3.two_tables o a b out m whole p q sides fitting);
+    }
 
 -- three tables joined both ways
 pub three_calls : (o : ByteOrder) (a b c ab left bc right : List ℕ) → Bytes a → Bytes b → Bytes c
@@ -48,31 +56,43 @@ pub three_calls : (o : ByteOrder) (a b c ab left bc right : List ℕ) → Bytes 
     → l ≡ join_answer o (take x.length ab') c (length left) → left' ≡ join_output o (take x.length ab') c left
     → y ≡ join_answer o b c (length bc) → bc' ≡ join_output o b c bc
     → r ≡ join_answer o a (take y.length bc') (length right) → right' ≡ join_output o a (take y.length bc') right
-    → (record { ab = x; left = l; bc = y; right = r } ≡ three_answers o a b c ab left bc right)
-    × ((ab' ≡ join_output o a b ab)
-    × ((left' ≡ join_output o (join_in o a b ab) c left)
-    × ((bc' ≡ join_output o b c bc)
-    × ((right' ≡ join_output o a (join_in o b c bc) right)
-    × (Joinable3 o a b c ab left bc right
-    → Associative o a b c ab left bc right (record { ab = x; left = l; bc = y; right = r }) ab' left' bc' right')))))
+    → record {
+      value : record { ab = x; left = l; bc = y; right = r } ≡ three_answers o a b c ab left bc right;
+      ab_after : ab' ≡ join_output o a b ab;
+      left_after : left' ≡ join_output o (join_in o a b ab) c left;
+      bc_after : bc' ≡ join_output o b c bc;
+      right_after : right' ≡ join_output o a (join_in o b c bc) right;
+      associative : Joinable3 o a b c ab left bc right
+      → Associative o a b c ab left bc right (record { ab = x; left = l; bc = y; right = r }) ab' left' bc' right';
+    }
 unfolding join_in
 three_calls o a b c ab left bc right p q s x l y r ab' left' bc' right' ex eab el eleft ey ebc er eright =
     rw (eright, er, ebc, ey, eleft, el, eab, ex)
-    (refl, (refl, (refl, (refl, (refl, demand_3.three_tables o a b c ab left bc right p q s)))))
+    record {
+      value = refl;
+      ab_after = refl;
+      left_after = refl;
+      bc_after = refl;
+      right_after = refl;
+      associative = demand_3.three_tables o a b c ab left bc right p q s;
+    }
 
 -- a table and the one with its sections rearranged
 pub rearranged_calls : (o : ByteOrder) (m t u mem other : List ℕ) → Bytes t
     → (a b : Answer) (mem' other' : List ℕ)
     → a ≡ load_answer o m t (length mem) → mem' ≡ load_memory o m t mem
     → b ≡ load_answer o m u (length other) → other' ≡ load_memory o m u other
-    → (record { original = a; rearranged = b } ≡ rearranged_answers o m t u mem other)
-    × ((mem' ≡ load_memory o m t mem)
-    × ((other' ≡ load_memory o m u other)
-    × (((x y : Sect) → TwoSections o t m mem x y → u ≡ swap_of o t x y → mem ≡ other
-    → Swapped x y (record { original = a; rearranged = b }) mem' other')
-    × (WellFormed o t → RearrangedTable o t u → mem ≡ other
-    → LoadsAlike (reading o t).sections (record { original = a; rearranged = b }) mem' other'))))
-rearranged_calls o m t u mem other p a b mem' other' ea eo eb et = rw (et, eb, eo, ea) (refl, (refl, (refl, (two, any))))
+    → record {
+      value : record { original = a; rearranged = b } ≡ rearranged_answers o m t u mem other;
+      original_memory_after : mem' ≡ load_memory o m t mem;
+      rearranged_memory_after : other' ≡ load_memory o m u other;
+      swapped : (x y : Sect) → TwoSections o t m mem x y → u ≡ swap_of o t x y → mem ≡ other
+      → Swapped x y (record { original = a; rearranged = b }) mem' other';
+      loads_alike : WellFormed o t → RearrangedTable o t u → mem ≡ other
+      → LoadsAlike (reading o t).sections (record { original = a; rearranged = b }) mem' other';
+    }
+rearranged_calls o m t u mem other p a b mem' other' ea eo eb et =
+    rw (et, eb, eo, ea) (record { value = refl; original_memory_after = refl; rearranged_memory_after = refl; swapped = two; loads_alike = any })
   where
     two : (x y : Sect) → TwoSections o t m mem x y → u ≡ swap_of o t x y → mem ≡ other
         → Swapped x y (rearranged_answers o m t u mem other) (load_memory o m t mem) (load_memory o m u other)
@@ -89,17 +109,26 @@ pub both_calls : (o : ByteOrder) (m a b ab ba mem other : List ℕ) → Bytes a 
     → y ≡ join_answer o b a (length ba) → ba' ≡ join_output o b a ba
     → f ≡ load_answer o m (take x.length ab') (length mem) → mem' ≡ load_memory o m (take x.length ab') mem
     → g ≡ load_answer o m (take y.length ba') (length other) → other' ≡ load_memory o m (take y.length ba') other
-    → (record { ab = x; ba = y; ab_loaded = f; ba_loaded = g } ≡ both_ways o m a b ab ba mem other)
-    × ((ab' ≡ join_output o a b ab)
-    × ((ba' ≡ join_output o b a ba)
-    × ((mem' ≡ load_memory o m (join_in o a b ab) mem)
-    × ((other' ≡ load_memory o m (join_in o b a ba) other)
-    × (Joinable o a b ab → Joinable o b a ba → mem ≡ other
-    → JoinsAlike o m a b ab ba (record { ab = x; ba = y; ab_loaded = f; ba_loaded = g }) ab' ba' mem' other')))))
+    → record {
+      value : record { ab = x; ba = y; ab_loaded = f; ba_loaded = g } ≡ both_ways o m a b ab ba mem other;
+      ab_after : ab' ≡ join_output o a b ab;
+      ba_after : ba' ≡ join_output o b a ba;
+      ab_memory_after : mem' ≡ load_memory o m (join_in o a b ab) mem;
+      ba_memory_after : other' ≡ load_memory o m (join_in o b a ba) other;
+      joins_alike : Joinable o a b ab → Joinable o b a ba → mem ≡ other
+      → JoinsAlike o m a b ab ba (record { ab = x; ba = y; ab_loaded = f; ba_loaded = g }) ab' ba' mem' other';
+    }
 unfolding join_in
 both_calls o m a b ab ba mem other p q x y ab' ba' f g mem' other' ex eab ey eba ef em eg eo =
     rw (eo, eg, em, ef, eba, ey, eab, ex)
-    (refl, (refl, (refl, (refl, (refl, λ sides turned same. rw (← same) (any_order.joins o a b ab ba m mem p q sides turned))))))
+    record {
+      value = refl;
+      ab_after = refl;
+      ba_after = refl;
+      ab_memory_after = refl;
+      ba_memory_after = refl;
+      joins_alike = λ sides turned same. rw (← same) (any_order.joins o a b ab ba m mem p q sides turned);
+    }
 
 -- the length that a join reports is within the output
 join_within : (o : ByteOrder) (a b : List ℕ) (room : ℕ) → (join_answer o a b room).length ≤ room

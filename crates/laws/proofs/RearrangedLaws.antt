@@ -163,7 +163,7 @@ pub none_twice : (ss : List Sect) → (AllShareNone ss) ↔ ((a : ℕ) → times
 none_twice ss = (all_to_times, times_to_all ss)
 
 -- with those of another table
-tables_to_times : {xs ys : List Sect} → TablesShareNone xs ys → (a : ℕ) → 1 ≤ times xs a → 1 ≤ times ys a → ⊥
+tables_to_times : {ys xs : List Sect} → TablesShareNone xs ys → (a : ℕ) → 1 ≤ times xs a → 1 ≤ times ys a → ⊥
 unfolding times
 tables_to_times All-none a h k = omega arith
 tables_to_times {ys = ys} (also {s = x} {ss = xs} p ps) a h k = go (covers x a) refl (λ l. tables_to_times ps a l k)
@@ -223,7 +223,7 @@ last_behind s All-none zs a = refl
 last_behind s (also {s = y} {ss = ys} p ps) zs a = rw (last_behind s ps zs a) (last_swap s y (ys ++ zs) a (share_none_agree s y p))
 
 -- and so may as many as one likes
-pub last_turned : {xs ys : List Sect} → TablesShareNone xs ys → (a : ℕ) → last_byte (ys ++ xs) a ≡ last_byte (xs ++ ys) a
+pub last_turned : {ys xs : List Sect} → TablesShareNone xs ys → (a : ℕ) → last_byte (ys ++ xs) a ≡ last_byte (xs ++ ys) a
 unfolding last_byte
 last_turned {ys = ys} All-none a = ap (λ (ss : List Sect). last_byte ss a) (append-nil ys)
 last_turned (also {s = x} {ss = xs} p ps) a = last_behind x p xs a ∙ rw (last_turned ps a)

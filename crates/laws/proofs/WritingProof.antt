@@ -17,10 +17,10 @@ use Rattle.writer.proofs.TripLaws.{reads_back}
 use Rattle.laws.specs.Writing.{store_listed, listed_bytes, ListAccepted, LoadsListed, WrittenLoads}
 
 -- storing the sections of a list is storing its data in turn
-listed_stored : (m mem d : List ℕ) (xs : List Section) → store_all m mem (sects_of xs d) ≡ store_listed m mem d xs
+listed_stored : (m d : List ℕ) (xs : List Section) (mem : List ℕ) → store_all m mem (sects_of xs d) ≡ store_listed m mem d xs
 unfolding store_all store_listed sects_of sect_of
-listed_stored m mem d [] = refl
-listed_stored m mem d (x ∷ xs) = listed_stored m _ d xs
+listed_stored m d [] mem = refl
+listed_stored m d (x ∷ xs) mem = listed_stored m d xs _
 
 listed_total : (d : List ℕ) {xs : List Section} → Faultless (length d) xs → total (sects_of xs d) ≡ listed_bytes xs
 unfolding total listed_bytes sects_of sect_of
@@ -61,7 +61,7 @@ module _ (o : ByteOrder) (m : List ℕ) (entry : ℕ) (xs : List Section) (d out
       record {
         accepts = (λ z. is_listed (iff.0 z), λ a. iff.1 (is_accepted a));
         answer = λ z. accepted_answer o m t (length mem) (iff.0 z) ∙ counts;
-        memory = λ z. accepted_memory o m t mem (iff.0 z) ∙ rw back.sections (listed_stored m mem d xs);
+        memory = λ z. accepted_memory o m t mem (iff.0 z) ∙ rw back.sections (listed_stored m d xs mem);
       }
 
 pub written_loads : WrittenLoads

@@ -1,4 +1,6 @@
 // Functions that make the calls of demand 3 and request 11. What they ensure follows from the contracts of `join` and `load`, from demand 3 and from request 11.
+#![tactic(auto)]
+
 ghost use Rattle.std.specs.Prelude.{◌≡◌};
 ghost use Rattle.boot_table.specs.Table.{Sect, reading};
 ghost use Rattle.boot_table.specs.Form.{WellFormed};

@@ -1,4 +1,6 @@
 // The C interface: each call writes its answer as numbers into an array that the caller lends.
+#![tactic(auto)]
+
 ghost use Rattle.std.specs.Prelude.{◌≡◌, length};
 ghost use Rattle.region_map.specs.Map.{map_answer};
 ghost use Rattle.loader.specs.Load.{judge_answer, load_answer, load_memory};

@@ -36,7 +36,6 @@ use denote.Triple.Call.{calls_at}
 use denote.Triple.Clauses.{ensured, lasts}
 use denote.Triple.Entry.{on_entry}
 use denote.Triple.Spec.{Meets, triple_of}
-use denote.Triple.Statement.{Contract, Triple}
 use denote.Triple.Table.{entered, cited}
 use denote.Triple.Walked.{Stays, stay_none_slice, stay_none, gave_slice, gave_ref, walk_of, Goes-none_slice, Goes-none, Goes-gave_slice, Goes-gave_ref, Walks, ends_at, walked, walk_Meets}
 use denote.Exit.{yes}
@@ -65,8 +64,8 @@ use Rattle.tuneharbor.proofs.put_written.Symbol.{name as #put}
 use Rattle.tuneharbor.proofs.put_written.Met as put-thm
 use Rattle.tuneharbor.specs.contracts.tuneharbor_write.Key.{name as #key}
 use Rattle.tuneharbor.specs.contracts.tuneharbor_write as this
-use Rattle.tuneharbor.proofs.tuneharbor_write.Statement as stated
 use Rattle.tuneharbor.proofs.tuneharbor_write.Code as code
+use Rattle.tuneharbor.proofs.tuneharbor_write.Goals as goal
 
 abbrev stayed : Stays (this.ended).signature.params (this.ended).kept
 stayed = (stay_none (λ _. u32) yes, (stay_none_slice (0 ∷ []) tt (plain (λ _. X.the_row)) yes, (stay_none_slice (1 ∷ []) tt (plain (λ _. u8)) yes, (stay_none (λ _. Boolean) yes, (gave_slice (2 ∷ []) tt (plain (λ _. u8)), (gave_ref (3 ∷ []) tt (ArrayOf (plain (λ _. u64)) (λ κs. tt) 4), tt))))))
@@ -79,10 +78,8 @@ module _ {M : Type 1} {𝓤 : Ura M} (𝓛 : Logic 𝓤) (mem : Memory → SProp
   -- the contracts that the proof cites
   abbrev Order : Contract 𝓤
   Order = triple_of 𝓛 order.signature (order.spec 𝓛 mem run)
-
   abbrev Write : Contract 𝓤
   Write = triple_of 𝓛 write.signature (write.spec 𝓛 mem run)
-
   abbrev Put : Contract 𝓤
   Put = triple_of 𝓛 put.signature (put.spec 𝓛 mem run)
 
@@ -91,50 +88,35 @@ module _ {M : Type 1} {𝓤 : Ura M} (𝓛 : Logic 𝓤) (mem : Memory → SProp
     (b₁ o₁ b₂ o₂ b₃ o₃ b₄ o₄ : ℕ) (γ₁ γ₂ γ₃ γ₄ : GName) (entry : ℕ) (xs : List Section) (d : List ℕ) (low : Bool) (out old : List ℕ)
     (small : entry < 2 ^ 32) (room₁ : Room X.the_row (length xs)) (room₂ : Room u8 (length d)) (room₃ : Room u8 (length out)) where
   open 𝓛 use {H}
-
   abbrev list : MutBor (List Section)
   list = record { ref_ptr = (b₁, o₁); ghost_name = γ₁; now = xs }
-
   abbrev bytes : Bor (List ℕ)
   bytes = record { ref_ptr = (b₂, o₂); ghost_name = γ₂; now = d }
-
   abbrev output : Bor (List ℕ)
   output = record { ref_ptr = (b₃, o₃); ghost_name = γ₃; now = out }
-
   abbrev answer : Bor (List ℕ)
   answer = record { ref_ptr = (b₄, o₄); ghost_name = γ₄; now = old }
-
   abbrev v₁ : Val
   v₁ = slice_val (b₁, o₁) (length xs)
-
   abbrev v₂ : Val
   v₂ = slice_val (b₂, o₂) (length d)
-
   abbrev v₃ : Val
   v₃ = slice_val (b₃, o₃) (length out)
-
   abbrev Bound : Type 0
   Bound = (walk_of 𝓛 this.ended stayed (this.clauses 𝓛 mem run)).Ghost
-
   abbrev bound : Bound
   bound = (((κ₁, (κ₂, (κ₃, (κ₄, tt)))), (q₁, (q₂, (q₃, (q₄, tt)))), tt, (entry, (list, (bytes, (low, (output, (answer, tt)))))), (vint w32 entry ∷ [], (v₁ ∷ [], (v₂ ∷ [], (vbool low ∷ [], (v₃ ∷ [], (vptr b₄ o₄ ∷ [], tt))))))), tt)
-
   abbrev Post : Val → SProp 𝓤
   Post = (walk_of 𝓛 this.ended stayed (this.clauses 𝓛 mem run)).post bound
-
   abbrev List₁ : Item 𝓤
   List₁ = ‵ ((ShrSlice (named 0) κ₁ X.the_row).own_val list (v₁ ∷ []))
-
   abbrev Data₂ : Item 𝓤
   Data₂ = ‵ ((ShrSlice (named 1) κ₂ u8).own_val bytes (v₂ ∷ []))
-
   abbrev Tokens : Item 𝓤
   Tokens = ‵ (flft κ₁ q₁) ⊛ ‵ (flft κ₂ q₂) ⊛ ‵ (flft κ₃ q₃) ⊛ ‵ ftrue
-
   -- what the walk has at exit: the output's last list is o, and the answer's w
   abbrev Had : List ℕ → List ℕ → List (Item 𝓤)
   Had o w = (‵ (flft κ₄ q₄) ⊛ ‵ ftrue) ∷ ‵ (fres γ₄ (Four.coded.code w)) ∷ Tokens ∷ ‵ (finally u8 γ₃ o) ∷ Data₂ ∷ List₁ ∷ []
-
   exits : (o w : List ℕ) → length o ≡ length out → w ≡ write_numbers (write_answer (order_of low) entry xs d (length out)) → o ≡ write_output (order_of low) entry xs d out → ent 𝓤 (⋆ 𝓛 (Had o w)) (Post vunit)
   exits o w same ew eo =
       qed 𝓛 (Had o w) ∵
@@ -142,38 +124,28 @@ module _ {M : Type 1} {𝓤 : Ura M} (𝓛 : Logic 𝓤) (mem : Memory → SProp
       move ! (2 ∷ []) $ split ! $ move ! (1 ∷ []) $ split ! $ move ! (1 ∷ []) $ split ! $ move ! (0 ∷ 4 ∷ []) $ join ! $ move ! (2 ∷ 0 ∷ []) $ join ! $ move ! (2 ∷ 0 ∷ []) $ join ! $ frame ! $
       move ! (1 ∷ 0 ∷ []) $ fjoin ! $ move ! (1 ∷ 0 ∷ []) $ fjoin ! $ owned ! Boolean (Is Boolean) (bool_Makes 𝓛) low _ refl $ fjoin ! $ move ! (1 ∷ 0 ∷ []) $ fjoin ! $ move ! (1 ∷ 0 ∷ []) $ fjoin ! $ owned ! u32 (Is u32) (uint_Makes 𝓛 w32) entry _ (refl, small) $ fjoin ! $ frame ! $
       feq_i ! (List Val) (vunit ∷ []) (vunit ∷ []) refl $ done !
-
   -- ---- what each callee's triple binds outside, and that the walk has what the callee asks
-
   abbrev to-order : (Order 𝓛 mem run).Ghost
   to-order = ((tt, tt, tt, (low, tt), (vbool low ∷ [], tt)), tt)
-
   goes_order : ent 𝓤 (emp 𝓤) ((Order 𝓛 mem run).pre to-order)
   goes_order = qed 𝓛 [] ∵ nothing ! $ owned ! Boolean (Is Boolean) (bool_Makes 𝓛) low _ refl $ fjoin ! $ nothing ! $ join ! $ frame ! $ done !
-
   -- of what `order_of` ensures, the clause alone: it has no `&mut`
   ordered : (o : ByteOrder) → ent 𝓤 (ensured 𝓛 order.ended (order.clauses 𝓛 mem run) tt (low, tt) tt o) (fact 𝓤 (o ≡ order_of low))
   ordered o = ex_e 𝓤 _ (λ ws. snd∗ 𝓤 (sem 𝓛 (lasts order.ended tt (low, tt) ws)) (fact 𝓤 (o ≡ order_of low)))
-
   abbrev to_write : ByteOrder → Val → (Write 𝓛 mem run).Ghost
   to_write o u = (((κ₁, (κ₂, (κ₃, tt))), (q₁, (q₂, (q₃, tt))), tt, (entry, (list, (bytes, (o, (output, tt))))), (vint w32 entry ∷ [], (v₁ ∷ [], (v₂ ∷ [], (u ∷ [], (v₃ ∷ [], tt)))))), tt)
-
   abbrev Asked : ByteOrder → Val → List (Item 𝓤)
   Asked o u = ‵ (flft κ₁ q₁) ∷ ‵ (flft κ₂ q₂) ∷ ‵ (flft κ₃ q₃) ∷ List₁ ∷ Data₂ ∷ ‵ ((O.the_row).own_val o (u ∷ [])) ∷ ‵ ((MutSlice (named 2) κ₃ u8).own_val output (v₃ ∷ [])) ∷ []
-
   goes-write : (o : ByteOrder) (u : Val) → ent 𝓤 (⋆ 𝓛 (Asked o u)) ((Write 𝓛 mem run).pre (to_write o u))
   goes-write o u =
       qed 𝓛 (Asked o u) ∵ nothing ! $ move ! (3 ∷ 0 ∷ []) $ join ! $ move ! (2 ∷ 0 ∷ []) $ join ! $ move ! (1 ∷ 0 ∷ []) $ join ! $
       nothing ! $ move ! (5 ∷ 0 ∷ []) $ fjoin ! $ move ! (4 ∷ 0 ∷ []) $ fjoin ! $ move ! (3 ∷ 0 ∷ []) $ fjoin ! $ move ! (2 ∷ 0 ∷ []) $ fjoin ! $ owned ! u32 (Is u32) (uint_Makes 𝓛 w32) entry _ (refl, small) $ fjoin ! $ move ! (1 ∷ 0 ∷ []) $ join ! $ frame ! $ done !
-
   abbrev to-put : Written → Val → (Put 𝓛 mem run).Ghost
   to-put r u = (((κ₄, tt), (q₄, tt), tt, (r, (answer, tt)), (u ∷ [], (vptr b₄ o₄ ∷ [], tt))), tt)
-
   goes-put : (r : Written) (u : Val) → ent 𝓤 (⋆ 𝓛 (‵ (flft κ₄ q₄) ∷ ‵ ((R.the_row).own_val r (u ∷ [])) ∷ ‵ ((MutRef (named 3) κ₄ Four).own_val answer (vptr b₄ o₄ ∷ [])) ∷ [])) ((Put 𝓛 mem run).pre (to-put r u))
   goes-put r u =
       qed 𝓛 (‵ (flft κ₄ q₄) ∷ ‵ ((R.the_row).own_val r (u ∷ [])) ∷ ‵ ((MutRef (named 3) κ₄ Four).own_val answer (vptr b₄ o₄ ∷ [])) ∷ []) ∵ nothing ! $ move ! (1 ∷ 0 ∷ []) $ join ! $
       nothing ! $ move ! (3 ∷ 0 ∷ []) $ fjoin ! $ move ! (2 ∷ 0 ∷ []) $ fjoin ! $ move ! (1 ∷ 0 ∷ []) $ join ! $ frame ! $ done !
-
   module _ (C : Calls 𝓤 H) (Λ : Loops 𝓤 H) (fm : FmC 𝓤 H 𝓛.laws C) (known-order : Triple 𝓤 (C #order) (Order 𝓛 mem run)) (known-write : Triple 𝓤 (C #write) (Write 𝓛 mem run)) (known-put : Triple 𝓤 (C #put) (Put 𝓛 mem run)) where
     walk : ent 𝓤 (on_entry 𝓛 this.signature (κ₁, (κ₂, (κ₃, (κ₄, tt)))) (q₁, (q₂, (q₃, (q₄, tt)))) (entry, (list, (bytes, (low, (output, (answer, tt)))))) (vint w32 entry ∷ [], (v₁ ∷ [], (v₂ ∷ [], (vbool low ∷ [], (v₃ ∷ [], (vptr b₄ o₄ ∷ [], tt)))))))
         (WpFn 𝓤 H C Λ code.function (vint w32 entry ∷ v₁ ∷ v₂ ∷ vbool low ∷ v₃ ∷ vptr b₄ o₄ ∷ []) Post)
@@ -220,11 +192,9 @@ module _ {M : Type 1} {𝓤 : Ura M} (𝓛 : Logic 𝓤) (mem : Memory → SProp
         returns ! (look ! 32 refl) $ forget ! 8 refl $ forget ! 10 refl $ forget ! 12 refl $ forget ! 14 refl $ forget ! 16 refl $ forget ! 18 refl $ forget ! 20 refl $ forget ! 22 refl $ forget ! 24 refl $ forget ! 26 refl $ forget ! 28 refl $ forget ! 30 refl $ forget ! 32 refl $
         move ! (32 ∷ 33 ∷ []) $ free1 ! $ move ! (30 ∷ 31 ∷ []) $ free1 ! $ move ! (28 ∷ 29 ∷ []) $ free1 ! $ move ! (26 ∷ 27 ∷ []) $ free1 ! $ move ! (24 ∷ 25 ∷ []) $ free1 ! $ move ! (22 ∷ 23 ∷ []) $ free1 ! $ move ! (20 ∷ 21 ∷ []) $ free1 ! $ move ! (18 ∷ 19 ∷ []) $ free1 ! $ move ! (16 ∷ 17 ∷ []) $ free1 ! $ move ! (14 ∷ 15 ∷ []) $ free1 ! $ move ! (12 ∷ 13 ∷ []) $ free1 ! $ move ! (10 ∷ 11 ∷ []) $ free1 ! $ move ! (8 ∷ 9 ∷ []) $ free1 ! $ free0 ! $
         keep ! (0 ∷ 1 ∷ 3 ∷ 4 ∷ 6 ∷ 7 ∷ []) $ by ! (exits zs.1.1.1.1.0 ws.1.0 k (ew ∙ ap write_numbers (er ∙ ap (λ (y : ByteOrder). write_answer y entry xs d (length out)) e)) (eo ∙ ap (λ (y : ByteOrder). write_output y entry xs d out) e)))))))))))))))))))))))))))))))
-
 module _ {M : Type 1} {𝓤 : Ura M} (𝓛 : Logic 𝓤) (mem : Memory → SProp 𝓤) (run : Routine → Fun 𝓤) (𝓣 : Tables 𝓤 𝓛.H)
     (known-order : Triple 𝓤 (𝓣.C #order) (Order 𝓛 mem run)) (known-write : Triple 𝓤 (𝓣.C #write) (Write 𝓛 mem run)) (known-put : Triple 𝓤 (𝓣.C #put) (Put 𝓛 mem run)) where
   open 𝓛 use {H}
-
   walks : Walks 𝓛 this.ended stayed (WpFn 𝓤 H 𝓣.C 𝓣.Λ code.function) (this.clauses 𝓛 mem run)
   walks = walked 𝓛 this.ended stayed (this.clauses 𝓛 mem run) (WpFn 𝓤 H 𝓣.C 𝓣.Λ code.function) (λ κs. (uint_vals w32, (shr_slice_vals, (shr_slice_vals, (bool_vals, (shr_slice_vals, (shr_vals, tt)))))))
       (λ κs. (uint_Tells w32, (shr_slice_Tells (named 0) κs.0 X.the_row, (shr_slice_Tells (named 1) κs.1.0 u8, (bool_Tells, (mut_slice_Tells (named 2) κs.1.1.0 u8, (mut_Tells (named 3) κs.1.1.1.0 Four, tt)))))))
@@ -232,18 +202,7 @@ module _ {M : Type 1} {𝓤 : Ura M} (𝓛 : Logic 𝓤) (mem : Memory → SProp
       a.1.0.ptr.0 a.1.0.ptr.1 a.1.1.0.ptr.0 a.1.1.0.ptr.1 a.1.1.1.1.0.ptr.0 a.1.1.1.1.0.ptr.1 a.1.1.1.1.1.0.ptr.0 a.1.1.1.1.1.0.ptr.1
       a.1.0.ghost_name a.1.1.0.ghost_name a.1.1.1.1.0.ghost_name a.1.1.1.1.1.0.ghost_name a.0 a.1.0.now a.1.1.0.now a.1.1.1.0 a.1.1.1.1.0.now a.1.1.1.1.1.0.now
       are.0.1 are.1.0.0.1 are.1.1.0.0.1 are.1.1.1.1.0.0.1 𝓣.C 𝓣.Λ (fm_of 𝓤 H 𝓛.laws 𝓣) known-order known-write known-put))
-
   meets : Meets 𝓛 this.signature (WpFn 𝓤 H 𝓣.C 𝓣.Λ code.function) (this.spec 𝓛 mem run)
   meets = walk_Meets 𝓛 this.ended stayed
       (Goes-none 𝓛 4 (λ _. u32) yes (λ κs x f. refl), (Goes-none_slice 𝓛 4 (0 ∷ []) tt (plain (λ _. X.the_row)) yes, (Goes-none_slice 𝓛 4 (1 ∷ []) tt (plain (λ _. u8)) yes, (Goes-none 𝓛 4 (λ _. Boolean) yes (λ κs x f. refl), (Goes-gave_slice 𝓛 4 2 tt (plain (λ _. u8)), (Goes-gave_ref 𝓛 4 3 tt (ArrayOf (plain (λ _. u64)) (λ κs. tt) 4), tt))))))
       (this.clauses 𝓛 mem run) (WpFn 𝓤 H 𝓣.C 𝓣.Λ code.function) (WpFn-mono 𝓤 H 𝓛.laws 𝓣 code.function) walks
-
-pub tuneharbor-write-spec : {M : Type 1} → stated.statement M
-unfolding code.routine tables_of
-tuneharbor-write-spec 𝓤 𝓛 𝓜 𝓡 =
-    entered 𝓤 𝓛.H (triple_of 𝓛 this.signature (this.spec 𝓛 𝓜.mem 𝓡.run))
-    (tables 𝓤 𝓛.H 𝓜 𝓡 code.env).C (tables 𝓤 𝓛.H 𝓜 𝓡 code.env).Λ #key code.function (code.unfolded 𝓤 𝓛.H 𝓜 𝓡)
-    (meets 𝓛 𝓜.mem 𝓡.run (tables_of 𝓤 𝓛.H 𝓜 (tables 𝓤 𝓛.H 𝓜 𝓡 code.env))
-    (cited 𝓤 𝓛.H (Order 𝓛 𝓜.mem 𝓡.run) 𝓜 𝓡 code.env #order order-def.routine code.calls-tuneharbor::order-of (order-thm.met 𝓤 𝓛 𝓜 𝓡))
-    (cited 𝓤 𝓛.H (Write 𝓛 𝓜.mem 𝓡.run) 𝓜 𝓡 code.env #write write_def.routine code.calls-writer::write (write_thm.met 𝓤 𝓛 𝓜 𝓡))
-    (cited 𝓤 𝓛.H (Put 𝓛 𝓜.mem 𝓡.run) 𝓜 𝓡 code.env #put put-def.routine code.calls-tuneharbor::put-written (put-thm.met 𝓤 𝓛 𝓜 𝓡)))

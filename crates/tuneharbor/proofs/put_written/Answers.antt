@@ -1,0 +1,9 @@
+-- `tuneharbor::put_written` meets its contract.
+use mathlib.Core.Path.{refl}
+use Rattle.tuneharbor.specs.Numbers.{write_numbers}
+use borrow.Author.Rules.{rules}
+use Rattle.tuneharbor.proofs.put_written.Goals as goal
+
+pub returns : goal.returns
+unfolding write_numbers
+returns c = refl
