@@ -36,7 +36,7 @@ pub turn_calls : (o : ByteOrder) (m a b out whole turn : List ℕ) → Bytes a �
       join_memory_after : whole' ≡ load_memory o m (join_in o a b out) whole;
       turn_memory_after : turn' ≡ load_memory o m b (load_memory o m a turn);
       in_turn : Joinable o a b out → Fitting m whole → whole ≡ turn
-      → InTurn o m a b out (record { joined = j; whole = w; first = f; second = g }) out' whole' turn';
+          → InTurn o m a b out (record { joined = j; whole = w; first = f; second = g }) out' whole' turn';
     }
 unfolding join_in
 turn_calls o m a b out whole turn p q j out' w f g whole' turn₁ turn' ej eo ew e1 ef et eg eu =
@@ -63,7 +63,7 @@ pub three_calls : (o : ByteOrder) (a b c ab left bc right : List ℕ) → Bytes 
       bc_after : bc' ≡ join_output o b c bc;
       right_after : right' ≡ join_output o a (join_in o b c bc) right;
       associative : Joinable3 o a b c ab left bc right
-      → Associative o a b c ab left bc right (record { ab = x; left = l; bc = y; right = r }) ab' left' bc' right';
+          → Associative o a b c ab left bc right (record { ab = x; left = l; bc = y; right = r }) ab' left' bc' right';
     }
 unfolding join_in
 three_calls o a b c ab left bc right p q s x l y r ab' left' bc' right' ex eab el eleft ey ebc er eright =
@@ -87,9 +87,9 @@ pub rearranged_calls : (o : ByteOrder) (m t u mem other : List ℕ) → Bytes t
       original_memory_after : mem' ≡ load_memory o m t mem;
       rearranged_memory_after : other' ≡ load_memory o m u other;
       swapped : (x y : Sect) → TwoSections o t m mem x y → u ≡ swap_of o t x y → mem ≡ other
-      → Swapped x y (record { original = a; rearranged = b }) mem' other';
+          → Swapped x y (record { original = a; rearranged = b }) mem' other';
       loads_alike : WellFormed o t → RearrangedTable o t u → mem ≡ other
-      → LoadsAlike (reading o t).sections (record { original = a; rearranged = b }) mem' other';
+          → LoadsAlike (reading o t).sections (record { original = a; rearranged = b }) mem' other';
     }
 rearranged_calls o m t u mem other p a b mem' other' ea eo eb et =
     rw (et, eb, eo, ea) (record { value = refl; original_memory_after = refl; rearranged_memory_after = refl; swapped = two; loads_alike = any })
@@ -116,7 +116,7 @@ pub both_calls : (o : ByteOrder) (m a b ab ba mem other : List ℕ) → Bytes a 
       ab_memory_after : mem' ≡ load_memory o m (join_in o a b ab) mem;
       ba_memory_after : other' ≡ load_memory o m (join_in o b a ba) other;
       joins_alike : Joinable o a b ab → Joinable o b a ba → mem ≡ other
-      → JoinsAlike o m a b ab ba (record { ab = x; ba = y; ab_loaded = f; ba_loaded = g }) ab' ba' mem' other';
+          → JoinsAlike o m a b ab ba (record { ab = x; ba = y; ab_loaded = f; ba_loaded = g }) ab' ba' mem' other';
     }
 unfolding join_in
 both_calls o m a b ab ba mem other p q x y ab' ba' f g mem' other' ex eab ey eba ef em eg eo =

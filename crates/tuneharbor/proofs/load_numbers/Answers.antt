@@ -1,7 +1,6 @@
 -- `tuneharbor::load_numbers` meets its contract.
 use mathlib.Core.Path.{refl}
 use Rattle.tuneharbor.specs.Numbers.{load_numbers}
-use borrow.Author.Rules.{rules}
 use Rattle.tuneharbor.proofs.load_numbers.Goals as goal
 
 pub returns : goal.returns

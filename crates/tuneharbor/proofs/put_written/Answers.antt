@@ -1,7 +1,6 @@
 -- `tuneharbor::put_written` meets its contract.
 use mathlib.Core.Path.{refl}
 use Rattle.tuneharbor.specs.Numbers.{write_numbers}
-use borrow.Author.Rules.{rules}
 use Rattle.tuneharbor.proofs.put_written.Goals as goal
 
 pub returns : goal.returns

@@ -3,7 +3,6 @@ use mathlib.Core.Path.{ap, ◌∙◌}
 use Rattle.words.specs.declared.ByteOrder.{ByteOrder}
 use Rattle.query.specs.Find.{find_answer}
 use Rattle.tuneharbor.specs.Numbers.{find_numbers}
-use borrow.Author.Rules.{rules}
 use Rattle.tuneharbor.proofs.tuneharbor_find.Goals as goal
 
 pub returns : goal.returns

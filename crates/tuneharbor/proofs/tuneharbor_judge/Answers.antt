@@ -3,7 +3,6 @@ use mathlib.Core.Path.{ap, ◌∙◌}
 use Rattle.words.specs.declared.ByteOrder.{ByteOrder}
 use Rattle.loader.specs.Load.{judge_answer}
 use Rattle.tuneharbor.specs.Numbers.{load_numbers}
-use borrow.Author.Rules.{rules}
 use Rattle.tuneharbor.proofs.tuneharbor_judge.Goals as goal
 
 pub returns : goal.returns

@@ -1,7 +1,6 @@
 -- `tuneharbor::tuneharbor_map` meets its contract.
 use mathlib.Core.Path.{ap}
 use Rattle.tuneharbor.specs.Numbers.{map_numbers}
-use borrow.Author.Rules.{rules}
 use Rattle.tuneharbor.proofs.tuneharbor_map.Goals as goal
 
 pub returns : goal.returns

@@ -4,13 +4,11 @@ use lib.ListN.{length}
 use Rattle.words.specs.declared.ByteOrder.{ByteOrder}
 use Rattle.rescue.specs.Rescue.{rescue_answer, rescue_output}
 use Rattle.tuneharbor.specs.Numbers.{rescue_numbers}
-use borrow.Author.Rules.{rules}
 use Rattle.tuneharbor.proofs.tuneharbor_rescue.Goals as goal
 
 pub returns : goal.returns
 unfolding rescue_numbers
-returns c =
-    (
-      ap rescue_numbers (c.rescue-rescued.ensures.value ∙ ap (λ (x : ByteOrder). rescue_answer x c.args.table.now (length c.args.output.now)) c.order_of.ensures),
-      c.rescue-rescued.ensures.output_after ∙ ap (λ (x : ByteOrder). rescue_output x c.args.table.now c.args.output.now) c.order_of.ensures,
-    )
+returns c = record {
+  answer_after = ap rescue_numbers (c.rescue-rescued.ensures.value ∙ ap (λ (x : ByteOrder). rescue_answer x c.args.table.now (length c.args.output.now)) c.order_of.ensures);
+  output_after = c.rescue-rescued.ensures.output_after ∙ ap (λ (x : ByteOrder). rescue_output x c.args.table.now c.args.output.now) c.order_of.ensures;
+}

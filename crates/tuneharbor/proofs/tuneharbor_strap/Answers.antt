@@ -2,7 +2,6 @@
 use mathlib.Core.Path.{ap, ◌∙◌}
 use Rattle.boot_strap.specs.declared.Manner.{Manner}
 use Rattle.boot_strap.specs.Strap.{nine, numbers_as}
-use borrow.Author.Rules.{rules}
 use Rattle.tuneharbor.proofs.tuneharbor_strap.Goals as goal
 
 pub returns : goal.returns

@@ -1,7 +1,6 @@
 -- `tuneharbor::tuneharbor_strap_label` meets its contract.
 use mathlib.Core.Path.{ap}
 use Rattle.tuneharbor.specs.Numbers.{label_numbers}
-use borrow.Author.Rules.{rules}
 use Rattle.tuneharbor.proofs.tuneharbor_strap_label.Goals as goal
 
 pub returns : goal.returns

@@ -1,7 +1,6 @@
 -- `tuneharbor::tuneharbor_strap_same` meets its contract.
 use mathlib.Core.Path.{ap}
 use Rattle.tuneharbor.specs.Numbers.{same_numbers}
-use borrow.Author.Rules.{rules}
 use Rattle.tuneharbor.proofs.tuneharbor_strap_same.Goals as goal
 
 pub returns : goal.returns

@@ -1,7 +1,6 @@
 -- `tuneharbor::tuneharbor_strap_short` meets its contract.
 use mathlib.Core.Path.{ap, ◌∙◌}
 use Rattle.boot_strap.specs.Strap.{nine}
-use borrow.Author.Rules.{rules}
 use Rattle.tuneharbor.proofs.tuneharbor_strap_short.Goals as goal
 
 pub returns : goal.returns
