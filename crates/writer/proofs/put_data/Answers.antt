@@ -10,6 +10,9 @@ use Rattle.writer.proofs.put_data.Goals as goal
 pub put_short-requires : goal.put_short-requires
 put_short-requires c = (c.requires.0, c.if-size-le4.true, c.requires.2, omega (arith, c.requires, pad_aligns c.args.size))
 
+pub slice_bounds-copy-end : goal.slice_bounds-copy-end
+slice_bounds-copy-end c = omega arith
+
 pub returns : goal.returns
 returns c =
     let is = ap (λ (n : ℕ). c.args.at + n) c.padded-whole.ensures in (
