@@ -113,18 +113,20 @@ end_written o m t at left e x = rw (read_end o t at e, take-nil left) (none_writ
 
 -- ---- ranges that store nothing again
 
+-- one of whose addresses no section stores
+pub free_meets : (m : List ℕ) (ss : List Sect) (first end : ℕ) → ((x : ℕ) → first ≤ x → x < end → 1 ≤ times ss x → ⊥) → Meets (written m ss) first end false
+free_meets m ss first end free =
+    meets_none (written m ss) first end
+    (λ x l u. written_none m ss x (by_cases (dec_le 1 (times ss x)) (λ k. absurd (free x l u k)) (λ k. omega arith)))
+
 module _ (m : List ℕ) (ss : List Sect) (low high first end : ℕ) (b : Between ss low high) where
   -- one that begins where the sections have ended
   pub above_meets : high ≤ first → Meets (written m ss) first end false
-  above_meets h =
-      meets_none (written m ss) first end
-      (λ x l u. written_none m ss x (by_cases (dec_le 1 (times ss x)) (λ k. absurd (omega (arith, (b x k).1))) (λ k. omega arith)))
+  above_meets h = free_meets m ss first end (λ x l u k. omega (arith, (b x k).1))
 
   -- and one that ends before they begin
   pub below_meets : end ≤ low → Meets (written m ss) first end false
-  below_meets h =
-      meets_none (written m ss) first end
-      (λ x l u. written_none m ss x (by_cases (dec_le 1 (times ss x)) (λ k. absurd (omega (arith, (b x k).0))) (λ k. omega arith)))
+  below_meets h = free_meets m ss first end (λ x l u k. omega (arith, (b x k).0))
 
 -- and one without an address that takes one write
 pub plain_meets : (m : List ℕ) (ss : List Sect) (first end : ℕ) → end ≤ lowest_from (one_write m) m (count m) first → Meets (written m ss) first end false

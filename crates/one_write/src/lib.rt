@@ -81,6 +81,7 @@ fn stored_before(
 // Whether the section after the earlier ones, with the addresses from first up to end, stores an address of kind 3 again.
 // One that begins where all of them have ended, or ends before all of them begin, does not; nor does one without such an
 // address. Only another is held against each.
+#[tactic(auto, using(crate::proofs::WalkLaws::free_meets, crate::proofs::WalkLaws::plain_meets))]
 fn repeats(
     map: &[u8],
     table: &[u8],
@@ -118,6 +119,7 @@ fn earlier_with(earlier: Earlier, first: u64, end: u64) -> Earlier
 }
 
 // The first section of a table that stores an address of kind 3 which an earlier one has stored.
+#[tactic(auto, using(crate::proofs::WalkLaws::plain_table))]
 pub fn first_repeat(map: &[u8], table: &[u8], order: ByteOrder) -> Repeat
     requires { WellFormed order table.now }
     ensures { result ≡ first_repeat order map.now table.now }

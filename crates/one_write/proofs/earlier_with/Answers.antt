@@ -1,5 +1,4 @@
 -- `one_write::earlier_with`: one more, the lower start and the higher end.
-use borrow.Author.Rules.{rules}
 use Rattle.one_write.proofs.earlier_with.Goals as goal
 
 pub returns : goal.returns

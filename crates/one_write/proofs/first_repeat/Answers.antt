@@ -1,19 +1,13 @@
 -- `one_write::first_repeat`: the sections before the offset store no address of kind 3 again, and those from it on decide.
-use Prim.Native.Nat.{◌-◌}
 use mathlib.Core.Path.{◌≡◌, sym, ◌∙◌}
 use native.Mathlib.Omega.{arith}
-use borrow.Author.Rules.{rules}
-use lib.ListN.{length}
 use Rattle.boot_table.specs.declared.Step.TheVariants.{Section}
 use Rattle.boot_table.specs.Table.{step_at}
 use Rattle.boot_table.proofs.StepLaws.{section_of}
 use Rattle.boot_table.proofs.ReadLaws.{read_else}
-use Rattle.one_write.proofs.WalkLaws.{meets_is, plain_table, Behind, behind_none, behind_here, behind_end, behind_more}
+use Rattle.one_write.proofs.WalkLaws.{meets_is, behind_none, behind_here, behind_end, behind_more}
 use Rattle.one_write.proofs.first_repeat.Goals as goal
 use Rattle.one_write.proofs.first_repeat.Goals.{In-Section}
-
-pub returns-then-once_from-eq-TOP : goal.returns-then-once_from-eq-TOP
-returns-then-once_from-eq-TOP c = sym (plain_table _ _ _ c.requires (omega (arith, c.once_from.ensures)))
 
 pub loop-address-init : goal.loop-address-init
 loop-address-init c = behind_none _ _ _ _ _ c.requires
@@ -35,7 +29,10 @@ overflow_add-end c = omega (arith, section_of _ _ _ (step_is (goal.at.overflow_a
 
 pub repeats-requires : goal.repeats-requires
 repeats-requires c =
-    record { well_formed = (c.requires, (section_of _ _ _ (step_is (goal.at.repeats-requires c).In-Section)).top); between = c.loop-address.invariant.between }
+    record {
+      well_formed = (c.requires, (section_of _ _ _ (step_is (goal.at.repeats-requires c).In-Section)).top);
+      between = c.loop-address.invariant.between;
+    }
 
 pub returns-then-repeats : goal.returns-then-repeats
 returns-then-repeats c =

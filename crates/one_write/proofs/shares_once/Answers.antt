@@ -1,7 +1,6 @@
 -- `one_write::shares_once`: the two sections share the addresses from the higher start up to the lower end.
 use Rattle.one_write.proofs.WalkLaws.{meets_none, once_test}
 use native.Mathlib.Omega.{arith}
-use borrow.Author.Rules.{rules}
 use Rattle.one_write.proofs.shares_once.Goals as goal
 
 pub returns-then-to-from : goal.returns-then-to-from

@@ -1,13 +1,9 @@
 -- `one_write::stored_before`: of the range, the sections that are left say the same as all the first ones.
-use Prim.Native.Nat.{ℕ, ◌≤◌, ◌<◌}
 use mathlib.Core.Path.{◌≡◌, sym, ◌∙◌, ap}
-use mathlib.Core.List.{List}
 use native.Mathlib.Omega.{arith}
-use borrow.Author.Rules.{rules}
 use lib.ListN.{take}
-use Rattle.words.specs.declared.ByteOrder.{ByteOrder}
 use Rattle.boot_table.specs.declared.Step.TheVariants.{Section}
-use Rattle.boot_table.specs.Table.{Reading, step_at, reading, read_on}
+use Rattle.boot_table.specs.Table.{Reading, step_at}
 use Rattle.boot_table.proofs.StepLaws.{section_of}
 use Rattle.boot_table.proofs.ReadLaws.{read_else, read_next}
 use Rattle.boot_table.proofs.FormLaws.{well_read}

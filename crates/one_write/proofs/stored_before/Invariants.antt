@@ -1,18 +1,11 @@
 -- `one_write::stored_before`: of the range, the sections that are left say the same as all the first ones.
 use Prim.Native.Nat.{ℕ, ◌≤◌, ◌<◌}
-use mathlib.Core.Path.{◌≡◌, sym, ◌∙◌, ap}
+use mathlib.Core.Path.{◌≡◌}
 use mathlib.Core.List.{List}
-use native.Mathlib.Omega.{arith}
-use borrow.Author.Rules.{rules}
 use lib.ListN.{take}
 use Rattle.words.specs.declared.ByteOrder.{ByteOrder}
-use Rattle.boot_table.specs.declared.Step.TheVariants.{Section}
-use Rattle.boot_table.specs.Table.{Reading, step_at, reading, read_on}
-use Rattle.boot_table.proofs.StepLaws.{section_of}
-use Rattle.boot_table.proofs.ReadLaws.{read_else, read_next}
-use Rattle.boot_table.proofs.FormLaws.{well_read}
+use Rattle.boot_table.specs.Table.{reading, read_on}
 use Rattle.one_write.specs.Once.{written}
-use Rattle.one_write.proofs.WalkLaws.{meets_none, meets_same, left_hit, left_miss, none_written, end_written}
 use Rattle.one_write.proofs.stored_before.Given as goal
 
 -- the table is whole from the offset on, and of the range its sections there say the same as the first k of all
