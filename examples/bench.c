@@ -2,8 +2,8 @@
  * address takes one write, decodes two strap values, and prints what each call
  * answers.
  *
- *   rt staticlib tuneharbor
- *   cc -std=c99 -Wall -Wextra -Werror -Iinclude examples/bench.c target/staticlib/libtuneharbor.a -o target/bench
+ *   (cd crates/tuneharbor && rt lib) && mkdir -p target
+ *   cc -std=c99 -Wall -Wextra -Werror -Iinclude examples/bench.c crates/tuneharbor/out/libtuneharbor.a -o target/bench
  *
  * It must print examples/bench.expected. */
 #include <inttypes.h>

@@ -1,7 +1,7 @@
 /* Says what stands at an address in two boot tables, an older and a newer file.
  *
- *   rt staticlib tuneharbor
- *   cc -std=c99 -Wall -Wextra -Werror -Iinclude examples/find.c target/staticlib/libtuneharbor.a -o target/find
+ *   (cd crates/tuneharbor && rt lib) && mkdir -p target
+ *   cc -std=c99 -Wall -Wextra -Werror -Iinclude examples/find.c crates/tuneharbor/out/libtuneharbor.a -o target/find
  *   target/find OLDER NEWER ADDRESS [low]
  *
  * ADDRESS is one to eight hexadecimal digits, without 0x; low says that the

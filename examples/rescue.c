@@ -1,7 +1,7 @@
 /* Rescues a boot table that is cut or damaged.
  *
- *   rt staticlib tuneharbor
- *   cc -std=c99 -Wall -Wextra -Werror -Iinclude examples/rescue.c target/staticlib/libtuneharbor.a -o target/rescue
+ *   (cd crates/tuneharbor && rt lib) && mkdir -p target
+ *   cc -std=c99 -Wall -Wextra -Werror -Iinclude examples/rescue.c crates/tuneharbor/out/libtuneharbor.a -o target/rescue
  *   target/rescue [low] <CUT >RESCUED
  *
  * low says that the header words have the low byte first. The table of the

@@ -1,7 +1,7 @@
 /* Measures how many bytes of stack one call of judge and one of load take.
  *
- *   rt staticlib tuneharbor
- *   cc -std=c99 -Wall -Wextra -Werror -Iinclude examples/stack.c target/staticlib/libtuneharbor.a -o target/stack
+ *   (cd crates/tuneharbor && rt lib) && mkdir -p target
+ *   cc -std=c99 -Wall -Wextra -Werror -Iinclude examples/stack.c crates/tuneharbor/out/libtuneharbor.a -o target/stack
  *   target/stack
  *
  * A call runs on a stack of its own, painted first (filled with one value): the

@@ -1,9 +1,9 @@
 /* Writes tables P and Q of document 01 from lists of sections, joins them, and
  * puts the join on standard output, where a lister can read it.
  *
- *   rt staticlib tuneharbor && rt check lister
- *   cc -std=c99 -Wall -Wextra -Werror -Iinclude examples/write.c target/staticlib/libtuneharbor.a -o target/write
- *   target/write | target/bin/lister
+ *   (cd crates/tuneharbor && rt lib) && (cd crates/lister && rt run <stdin) && mkdir -p target
+ *   cc -std=c99 -Wall -Wextra -Werror -Iinclude examples/write.c crates/tuneharbor/out/libtuneharbor.a -o target/write
+ *   target/write | crates/lister/out/lister
  *
  * The lister must print examples/write.expected. With the argument p or q, that
  * table alone is put on standard output. A refusal is reported on standard

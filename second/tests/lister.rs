@@ -11,8 +11,8 @@ use std::io::{ErrorKind, Read, Write};
 use std::process::{Command, Stdio};
 use std::time::Duration;
 
-/// The folder of the programs.
-const PROGRAMS: &str = concat!(env!("CARGO_MANIFEST_DIR"), "/../target/bin");
+/// The folder of the crates, each with its program in its `out/`.
+const CRATES: &str = concat!(env!("CARGO_MANIFEST_DIR"), "/../crates");
 
 /// Runs the lister of an order; its input comes in pieces with a pause after
 /// each.
@@ -21,12 +21,12 @@ fn run_in_pieces(pieces: &[&[u8]], order: ByteOrder, pause: Duration) -> Vec<u8>
         ByteOrder::HighFirst => "lister",
         ByteOrder::LowFirst => "lister_low",
     };
-    let mut child = Command::new(format!("{PROGRAMS}/{name}"))
+    let mut child = Command::new(format!("{CRATES}/{name}/out/{name}"))
         .stdin(Stdio::piped())
         .stdout(Stdio::piped())
         .spawn()
         .unwrap_or_else(|error| {
-            panic!("target/bin/{name} does not run ({error}); `rt check {name}` makes it")
+            panic!("{name} does not run ({error}); `rt run` in crates/{name} makes it")
         });
     let mut input = child.stdin.take().expect("standard input is piped");
     let mut output = child.stdout.take().expect("standard output is piped");
