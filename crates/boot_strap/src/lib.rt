@@ -169,7 +169,7 @@ fn is_reserved(value: u32, strict: bool) -> bool
 // Decodes a strap value in a manner.
 pub fn decode_as(value: u32, manner: Manner) -> StrapAnswer
     ensures value { result ≡ decode_as manner value }
-    ensures result_value { answer_numbers result ≡ numbers_as manner value }
+    ensures numbers { answer_numbers result ≡ numbers_as manner value }
 {
     if STRAP_LIMIT < value {
         return StrapAnswer::Refused {
@@ -189,7 +189,7 @@ pub fn decode_as(value: u32, manner: Manner) -> StrapAnswer
 // Decodes a strap value where no manner is named: in the strict one.
 pub fn decode(value: u32) -> StrapAnswer
     ensures value { result ≡ decode_short value }
-    ensures result_value { answer_numbers result ≡ numbers_short value }
+    ensures numbers { answer_numbers result ≡ numbers_short value }
 {
     decode_as(value, Manner::Strict)
 }

@@ -119,7 +119,7 @@ fn put_refused(buffer: &mut [u8], at: usize, number: usize, place: usize) -> usi
 // Writes a line for each section of a well-formed table.
 fn put_sections(table: &[u8], order: ByteOrder, buffer: &mut [u8], from: usize) -> usize
     requires well_formed { WellFormed order table.now }
-    requires table_in_bounds { from + length (section_lines (reading order table.now).sections) ≤ length buffer.old }
+    requires room { from + length (section_lines (reading order table.now).sections) ≤ length buffer.old }
     ensures value { result ≡ from + length (section_lines (reading order table.now).sections) }
     ensures buffer_after { buffer.new ≡ over buffer.old from (section_lines (reading order table.now).sections) }
 {

@@ -27,9 +27,9 @@ fn region_for(map: &[u8], known: Region, address: u64) -> Region
 
 // Stores as much of some bytes as a region takes from an address on, and says how much.
 fn store_run(memory: &mut [u8], region: Region, address: u64, body: &[u8]) -> usize
-    requires first_le_address { (region.first ≤ address) × (address < region.end) × (0 < length body.now) }
-    requires first_in_bounds { region.place + (region.end - region.first) ≤ length memory.old }
-    ensures result_nonzero { (0 < result) × (result ≤ length body.now) × (result ≤ region.end - address) }
+    requires inside { (region.first ≤ address) × (address < region.end) × (0 < length body.now) }
+    requires room { region.place + (region.end - region.first) ≤ length memory.old }
+    ensures count { (0 < result) × (result ≤ length body.now) × (result ≤ region.end - address) }
     ensures memory_after { memory.new ≡ over memory.old (region.place + (address - region.first)) (take result body.now) }
 {
     let place = region.place + (address - region.first) as usize;
@@ -41,7 +41,7 @@ fn store_run(memory: &mut [u8], region: Region, address: u64, body: &[u8]) -> us
 // Stores a section's data from its address on, run by run, and answers the region of the last.
 fn store_section(map: &[u8], memory: &mut [u8], known: Region, address: u32, body: &[u8]) -> Region
     requires sound_map { SoundMap map.now × (length memory.old ≡ memory_size map.now) × Places map.now known }
-    requires body_bound { (address + length body.now ≤ 2 ^ 32) × (closed_from map.now (length body.now) address ≡ none) }
+    requires open_to_end { (address + length body.now ≤ 2 ^ 32) × (closed_from map.now (length body.now) address ≡ none) }
     ensures places { Places map.now result }
     ensures memory_after { memory.new ≡ store_bytes map.now memory.old address body.now }
 {
@@ -60,7 +60,7 @@ fn store_section(map: &[u8], memory: &mut [u8], known: Region, address: u32, bod
 // Stores the sections of a table that was accepted, in table order.
 pub fn store_sections(map: &[u8], table: &[u8], order: ByteOrder, memory: &mut [u8])
     requires sound_map { SoundMap map.now × (length memory.old ≡ memory_size map.now) }
-    requires table_value { (table_answer order map.now table.now).number ≡ 0 }
+    requires accepted { (table_answer order map.now table.now).number ≡ 0 }
     ensures { memory.new ≡ store_all map.now memory.old (reading order table.now).sections }
 {
     let mut at: usize = 4;

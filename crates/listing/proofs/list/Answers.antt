@@ -61,7 +61,7 @@ pub put_sections-b-requires : goal.put_sections-b-requires
 put_sections-b-requires c =
     record {
       well_formed = well (goal.at.put_sections-b-requires c).Else-form-ne0;
-      table_in_bounds = omega (arith, length_entry c.entry_of.result, room (goal.at.put_sections-b-requires c).Else-form-ne0);
+      room = omega (arith, length_entry c.entry_of.result, room (goal.at.put_sections-b-requires c).Else-form-ne0);
     }
 
 pub put_end-requires : goal.put_end-requires

@@ -50,7 +50,7 @@ fine c =
 
 pub store_sections-requires : goal.store_sections-requires
 store_sections-requires c =
-    let z = c.if-regions-ne0.false in record { sound_map = (answer_sound _ (ap (λ (r : MapAnswer). r.number) (sym c.judge_map-regions.ensures) ∙ z), c.if-memory-regions.false ∙ answer_bytes _ _ c.judge_map-regions.ensures z); table_value = same_number (sym (fine (goal.at.store_sections-requires c).In-Nowhere)) ∙ c.if-answer-ne0.false }
+    let z = c.if-regions-ne0.false in record { sound_map = (answer_sound _ (ap (λ (r : MapAnswer). r.number) (sym c.judge_map-regions.ensures) ∙ z), c.if-memory-regions.false ∙ answer_bytes _ _ c.judge_map-regions.ensures z); accepted = same_number (sym (fine (goal.at.store_sections-requires c).In-Nowhere)) ∙ c.if-answer-ne0.false }
 
 pub returns-in-Nowhere : goal.returns-in-Nowhere
 returns-in-Nowhere c =

@@ -18,10 +18,10 @@ few c = omega arith
 pub copy-requires : goal.copy-requires
 copy-requires c =
     run_fits c.args.memory.now c.args.body.now c.args.region c.args.address _
-    c.requires.first_le_address.0 (few (goal.at.copy-requires c).After-lower-count) c.requires.first_in_bounds
+    c.requires.inside.0 (few (goal.at.copy-requires c).After-lower-count) c.requires.room
 
 pub returns : goal.returns
 returns c = record {
-  result_nonzero = (omega arith, omega arith, omega arith);
+  count = (omega arith, omega arith, omega arith);
   memory_after = lent_back c.args.memory.now _ c.copy.new.part _ (omega arith) c.copy.ensures;
 }

@@ -20,11 +20,11 @@ loop-done-init c =
 
 pub region_for-region-requires : goal.region_for-region-requires
 region_for-region-requires c =
-    (c.requires.sound_map.0, open_each c.args.map.now (length c.args.body.now) c.args.address _ c.requires.body_bound.1 (omega (arith, c.loop-done.invariant.here)) (omega (arith, c.loop-done.invariant.here)), c.loop-done.invariant.places)
+    (c.requires.sound_map.0, open_each c.args.map.now (length c.args.body.now) c.args.address _ c.requires.open_to_end.1 (omega (arith, c.loop-done.invariant.here)) (omega (arith, c.loop-done.invariant.here)), c.loop-done.invariant.places)
 
 pub store_run-count-requires : goal.store_run-count-requires
 store_run-count-requires c =
-    let body = c.args.body.now in record { first_le_address = (c.region_for-region.ensures.1, c.region_for-region.ensures.2, rw (part_to_end body c.loop-done.done) (omega (arith, length-drop c.loop-done.done body))); first_in_bounds = omega (arith, c.region_for-region.ensures.0.inside, c.loop-done.invariant.same, c.requires.sound_map.1) }
+    let body = c.args.body.now in record { inside = (c.region_for-region.ensures.1, c.region_for-region.ensures.2, rw (part_to_end body c.loop-done.done) (omega (arith, length-drop c.loop-done.done body))); room = omega (arith, c.region_for-region.ensures.0.inside, c.loop-done.invariant.same, c.requires.sound_map.1) }
 
 -- a turn stores at least one byte, and no more than are left
 turn : (c : After-slice_known-in-loop-done-1) → (0 < c.store_run-count.result)
@@ -32,7 +32,7 @@ turn : (c : After-slice_known-in-loop-done-1) → (0 < c.store_run-count.result)
 turn c =
     let body = c.args.body.now in
     let d = c.loop-done.done in
-    let run = c.store_run-count.ensures.result_nonzero in
+    let run = c.store_run-count.ensures.count in
     let n : length (take (length body - d) (drop d body)) ≡ length body - d = ap length (part_to_end body d) ∙ length-drop d body in
     (run.0, omega (arith, run.1, n))
 
@@ -57,7 +57,7 @@ loop-done-preserved c =
           ∙ store_more c.args.map.now c.loop-done.memory c.args.body.now c.store_run-count.new.memory c.args.address d c.store_run-count.result few
           (c.store_run-count.ensures.memory_after
           ∙ ap (λ (x : List ℕ). over c.loop-done.memory (c.region_for-region.result.place + (c.loop-done.at - c.region_for-region.result.first)) (take c.store_run-count.result x)) (part_to_end c.args.body.now d)
-          ∙ region_stored _ _ _ _ c.region_for-region.result c.region_for-region.ensures.0 c.region_for-region.ensures.1 c.region_for-region.ensures.2 (c.loop-done.invariant.same ∙ c.requires.sound_map.1) (rw (length-take-le c.store_run-count.result (drop d c.args.body.now) few) c.store_run-count.ensures.result_nonzero.2)
+          ∙ region_stored _ _ _ _ c.region_for-region.result c.region_for-region.ensures.0 c.region_for-region.ensures.1 c.region_for-region.ensures.2 (c.loop-done.invariant.same ∙ c.requires.sound_map.1) (rw (length-take-le c.store_run-count.result (drop d c.args.body.now) few) c.store_run-count.ensures.count.2)
           ∙ ap (λ (x : ℕ). store_bytes c.args.map.now c.loop-done.memory x (take c.store_run-count.result (drop d c.args.body.now))) c.loop-done.invariant.here);
       places = c.region_for-region.ensures.0;
     }

@@ -18,7 +18,7 @@ use Rattle.loader.proofs.storing.store_sections.Goals.{In-Section}
 
 pub loop-address-init : goal.loop-address-init
 loop-address-init c =
-    let q = table_only _ c.args.map.now c.args.table.now c.requires.table_value in
+    let q = table_only _ c.args.map.now c.args.table.now c.requires.accepted in
     let w = well_read _ c.args.table.now q.0 in
     record {
       whole = w.1;
@@ -59,7 +59,7 @@ pub store_section-region-requires : goal.store_section-region-requires
 store_section-region-requires c =
     let n = lent_length _ _ _ (section_of _ _ _ (step_is (goal.at.store_section-region-requires c).In-Section)) in record {
       sound_map = (c.requires.sound_map.0, c.loop-address.invariant.same ∙ c.requires.sound_map.1, c.loop-address.invariant.places);
-      body_bound = (
+      open_to_end = (
         omega (arith, n, (section_of _ _ _ (step_is (goal.at.store_section-region-requires c).In-Section)).top),
         ap (λ (x : ℕ). closed_from c.args.map.now x c.in-Section.address) n ∙ (opens_next _ _ _ _ (step_is (goal.at.store_section-region-requires c).In-Section) c.loop-address.invariant.opens).0,
       );
