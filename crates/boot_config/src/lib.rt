@@ -257,6 +257,7 @@ fn configure_copy(
 }
 
 // Sets and clears bits of lent registers as a configuration table says.
+#[tactic(auto, using(crate::proofs::AnswerLaws::unfit_lengths, crate::proofs::AnswerLaws::unfit_many, crate::proofs::AnswerLaws::unfit_order, crate::proofs::AnswerLaws::fit_all, crate::proofs::AnswerLaws::answer_unfit, crate::proofs::AnswerLaws::answer_long, crate::proofs::AnswerLaws::config_keeps))]
 pub fn configure(table: &[u8], addresses: &[u32], values: &mut [u32]) -> Configured
     ensures value { result ≡ config_answer table.now addresses.now values.old }
     ensures values_after { values.new ≡ config_values table.now addresses.now values.old }

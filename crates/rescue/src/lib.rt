@@ -96,6 +96,7 @@ fn write_rescued(front: &[u8], order: ByteOrder, output: &mut [u8])
 }
 
 // Rescues a table into the output: its entry, its whole sections from the start as they stand, and a zero word.
+#[tactic(auto, using(crate::proofs::AnswerLaws::table_long, crate::proofs::AnswerLaws::entry_cut, crate::proofs::AnswerLaws::result_long, crate::proofs::AnswerLaws::output_short, crate::proofs::AnswerLaws::output_kept, crate::proofs::WholeRunLaws::length_rescued))]
 pub fn rescue(table: &[u8], order: ByteOrder, output: &mut [u8]) -> Rescued
     ensures value { result ≡ rescue_answer order table.now (length output.old) }
     ensures output_after { output.new ≡ rescue_output order table.now output.old }

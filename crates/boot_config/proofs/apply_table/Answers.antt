@@ -1,20 +1,24 @@
 -- `boot_config::apply_table`: the entries still to come, on the values so far, come to the whole table.
-use Prim.Native.Nat.{ℕ, ◌*◌, ◌-◌, ◌≤◌}
 use mathlib.Core.Path.{◌≡◌, sym, ap, ◌∙◌}
-use mathlib.Core.List.{List}
 use native.Mathlib.Numerals.{add-one}
 use native.Mathlib.Omega.{arith}
 use borrow.Author.Rules.{rules}
-use lib.ListN.{length, length-set}
+use lib.ListN.{length-set}
 use Rattle.boot_config.specs.declared.Entry.TheVariants.{Change}
-use Rattle.boot_config.specs.Config.{entry_size, Applied, outcome, applied, entry_at}
+use Rattle.boot_config.specs.Config.{Applied, outcome, entry_at}
 use Rattle.boot_config.proofs.EntryLaws.{change_of}
-use Rattle.boot_config.proofs.AppliedLaws.{applied_on, applied_start, applied_change, applied_end, applied_fault}
+use Rattle.boot_config.proofs.AppliedLaws.{applied_start, applied_change, applied_end, applied_fault}
 use Rattle.boot_config.proofs.apply_table.Goals as goal
 use Rattle.boot_config.proofs.apply_table.Goals.{In-Change}
 
 pub loop-register-init : goal.loop-register-init
-loop-register-init c = record { place = omega arith; within = omega arith; lengths = search rules; whole = applied_start _ _ _ }
+loop-register-init c =
+    record {
+      place = omega arith;
+      within = omega arith;
+      lengths = search rules;
+      whole = applied_start _ _ _;
+    }
 
 -- a turn whose entry asks for a change
 change-is : (c : In-Change)
@@ -27,12 +31,20 @@ change-requires c = omega (arith, change_of _ _ _ (change-is (goal.at.change-req
 pub returns-in-End : goal.returns-in-End
 returns-in-End c =
     let is = rw c.loop-register.invariant.place at (sym c.entry_at.ensures ∙ c.in-End.is) in
-    let same = c.loop-register.invariant.whole ∙ applied_end _ _ c.loop-register.entries c.loop-register.values is in record { value = sym (ap outcome same); values_after = sym (ap (λ (r : Applied). r.values) same) }
+    let same = c.loop-register.invariant.whole ∙ applied_end _ _ c.loop-register.entries c.loop-register.values is in
+    record {
+      value = sym (ap outcome same);
+      values_after = sym (ap (λ (r : Applied). r.values) same);
+    }
 
 pub returns-in-Fault : goal.returns-in-Fault
 returns-in-Fault c =
     let is = rw c.loop-register.invariant.place at (sym c.entry_at.ensures ∙ c.in-Fault.is) in
-    let same = c.loop-register.invariant.whole ∙ applied_fault _ _ c.loop-register.entries c.loop-register.values is in record { value = sym (ap outcome same); values_after = sym (ap (λ (r : Applied). r.values) same) }
+    let same = c.loop-register.invariant.whole ∙ applied_fault _ _ c.loop-register.entries c.loop-register.values is in
+    record {
+      value = sym (ap outcome same);
+      values_after = sym (ap (λ (r : Applied). r.values) same);
+    }
 
 pub overflow_add-entries : goal.overflow_add-entries
 overflow_add-entries c = omega (arith, change_of _ _ _ (change-is (goal.at.overflow_add-entries c).In-Change))

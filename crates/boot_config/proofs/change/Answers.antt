@@ -1,5 +1,4 @@
 -- `boot_config::change`: one register gets its masked value.
-use borrow.Author.Rules.{rules}
 use Rattle.boot_config.proofs.change.Goals as goal
 
 pub returns : goal.returns

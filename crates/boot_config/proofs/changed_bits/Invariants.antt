@@ -1,11 +1,8 @@
 -- `boot_config::changed_bits`: the bits counted so far and those from register i on come to all.
 use Prim.Native.Nat.{◌+◌, ◌*◌, ◌-◌, ◌≤◌}
 use mathlib.Core.Path.{◌≡◌}
-use native.Mathlib.Omega.{arith}
-use borrow.Author.Rules.{rules}
 use lib.ListN.{length, drop}
 use Rattle.boot_config.specs.Registers.{changed_bits}
-use Rattle.boot_config.proofs.BitLaws.{differ_le, changed_on, changed_end}
 use Rattle.boot_config.proofs.changed_bits.Given as goal
 
 abbrev pub invariant-loop-i : goal.invariant-loop-i

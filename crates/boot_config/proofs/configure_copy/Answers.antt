@@ -1,7 +1,6 @@
 -- `boot_config::configure_copy`: the copy has the values after the table, and is kept where there is no fault.
 use mathlib.Core.Path.{◌≡◌, sym, ◌∙◌}
 use mathlib.Core.Bool.{true}
-use borrow.Author.Rules.{rules}
 use Rattle.boot_config.specs.Registers.{fit}
 use Rattle.boot_config.specs.Config.{applied, outcome}
 use Rattle.boot_config.proofs.AnswerLaws.{fit_all, applied_refused, applied_done}
@@ -20,7 +19,7 @@ pub returns-then-outcome-ne0 : goal.returns-then-outcome-ne0
 returns-then-outcome-ne0 c =
     let k = (goal.at.returns-then-outcome-ne0 c).After-apply_table-outcome in
     let p = applied_refused c.args.table.now c.args.addresses.now c.args.values.now
-        (fits k) c.requires.table_len_bound.0 (applied_is k) c.if-outcome-ne0.true c.refused.ensures in
+    (fits k) c.requires.table_len_bound.0 (applied_is k) c.if-outcome-ne0.true c.refused.ensures in
     record { value = p.0; values_after = p.1 }
 
 pub returns : goal.returns
@@ -28,5 +27,5 @@ returns c =
     let k = (goal.at.returns c).After-apply_table-outcome in
     let e = rw c.copy_values.ensures at c.apply_table-outcome.ensures.values_after in
     let p = applied_done c.args.table.now c.args.addresses.now c.args.values.now
-        (fits k) c.requires.table_len_bound.0 (applied_is k) c.if-outcome-ne0.false (rw e at c.changed_bits-bits.ensures) (c.copy_values-2.ensures ∙ e) in
+    (fits k) c.requires.table_len_bound.0 (applied_is k) c.if-outcome-ne0.false (rw e at c.changed_bits-bits.ensures) (c.copy_values-2.ensures ∙ e) in
     record { value = p.0; values_after = p.1 }

@@ -1,12 +1,8 @@
 -- `boot_config::copy_values`: the values before i are copied, the others are as they were.
 use Prim.Native.Nat.{◌-◌, ◌≤◌}
-use mathlib.Core.Path.{◌≡◌, ◌∙◌}
-use mathlib.Core.List.{◌++◌, append-nil}
-use native.Mathlib.Omega.{arith}
-use borrow.Author.Rules.{rules}
-use lib.ListN.{length, take, drop, length-set, drop_of_length-le}
-use lib.Seq.{take_all}
-use Rattle.words.proofs.RunLaws.{copy_more}
+use mathlib.Core.Path.{◌≡◌}
+use mathlib.Core.List.{◌++◌}
+use lib.ListN.{length, take, drop}
 use Rattle.boot_config.proofs.copy_values.Given as goal
 
 abbrev pub invariant-loop-i : goal.invariant-loop-i

@@ -1,9 +1,7 @@
 -- `boot_config::entry_at`: each return is the outcome that the tests before it lead to.
 use mathlib.Core.Path.{◌≡◌, sym, ◌∙◌}
 use mathlib.Core.Bool.{false, ◌&&◌}
-use mathlib.Core.Logic.{⊎_elim}
 use native.Mathlib.Omega.{arith}
-use borrow.Author.Rules.{rules}
 use lib.Dec.{eqb}
 use Rattle.boot_config.proofs.EntryLaws.{some_set, some_clear, entry_cut, entry_branch, entry_after, entry_end, entry_unknown, entry_change}
 use Rattle.boot_config.proofs.entry_at.Goals as goal
@@ -33,7 +31,7 @@ returns-then-clear-eq0 c =
 some_mask : (c : After-find-register) → (eqb c.word_at-put.result 0 && eqb c.word_at-clear.result 0) ≡ false
 some_mask c =
     elim c.if-put-eq0.branch [
-      then-put-eq0+else-clear-eq0 w ↦ some_clear c.word_at-put.result c.word_at-clear.result w.if-clear-eq0.false
+      | then-put-eq0+else-clear-eq0 w ↦ some_clear c.word_at-put.result c.word_at-clear.result w.if-clear-eq0.false
       | else-put-eq0 w ↦ some_set c.word_at-put.result c.word_at-clear.result w.if-put-eq0.false
     ]
 

@@ -1,8 +1,7 @@
 -- `boot_config::find`: each turn halves the places where the address can stand, and as many turns as halve 1,023 leave one.
-use Prim.Native.Nat.{◌+◌, ◌*◌, ◌/◌, ◌≤◌}
+use Prim.Native.Nat.{◌+◌, ◌*◌, ◌/◌}
 use mathlib.Core.Path.{◌≡◌, sym}
 use native.Mathlib.Omega.{arith}
-use borrow.Author.Rules.{rules}
 use Rattle.boot_config.proofs.RegisterLaws.{index_le, Between, found, halved, not_found}
 use Rattle.boot_config.proofs.find.Goals as goal
 use Rattle.boot_config.proofs.find.Goals.{After-reaches}
@@ -11,8 +10,14 @@ pub returns-then-addresses-eq0 : goal.returns-then-addresses-eq0
 returns-then-addresses-eq0 c = omega (arith, index_le c.args.addresses.now c.args.address)
 
 pub loop-most-init : goal.loop-most-init
-loop-most-init c =
-    (omega arith, record { inside = omega arith; before = λ k l. absurd (omega arith); after = λ k l u. absurd (omega arith) })
+loop-most-init c = (
+  omega arith,
+  record {
+    inside = omega arith;
+    before = λ k l. absurd (omega arith);
+    after = λ k l u. absurd (omega arith);
+  },
+)
 
 pub overflow_add-half : goal.overflow_add-half
 overflow_add-half c = omega (arith, c.loop-most.invariant)

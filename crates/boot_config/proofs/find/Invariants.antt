@@ -1,9 +1,6 @@
 -- `boot_config::find`: each turn halves the places where the address can stand, and as many turns as halve 1,023 leave one.
-use Prim.Native.Nat.{◌+◌, ◌*◌, ◌/◌, ◌≤◌}
-use mathlib.Core.Path.{◌≡◌, sym}
-use native.Mathlib.Omega.{arith}
-use borrow.Author.Rules.{rules}
-use Rattle.boot_config.proofs.RegisterLaws.{index_le, Between, found, halved, not_found}
+use Prim.Native.Nat.{◌≤◌}
+use Rattle.boot_config.proofs.RegisterLaws.{Between}
 use Rattle.boot_config.proofs.find.Given as goal
 
 abbrev pub invariant-loop-most : goal.invariant-loop-most

@@ -1,10 +1,6 @@
 -- `boot_config::is_rising`: the addresses rise where those from i - 1 on do.
-use Prim.Native.Nat.{◌-◌, ◌≤◌}
-use mathlib.Core.Path.{◌≡◌, sym, ◌∙◌}
+use mathlib.Core.Path.{sym, ◌∙◌}
 use native.Mathlib.Omega.{arith}
-use borrow.Author.Rules.{rules}
-use lib.ListN.{length, drop}
-use Rattle.boot_config.specs.Registers.{rising}
 use Rattle.boot_config.proofs.RegisterLaws.{rising_on, rising_not, rising_end}
 use Rattle.boot_config.proofs.is_rising.Goals as goal
 

@@ -1,11 +1,8 @@
 -- `boot_config::is_rising`: the addresses rise where those from i - 1 on do.
 use Prim.Native.Nat.{◌-◌, ◌≤◌}
-use mathlib.Core.Path.{◌≡◌, sym, ◌∙◌}
-use native.Mathlib.Omega.{arith}
-use borrow.Author.Rules.{rules}
+use mathlib.Core.Path.{◌≡◌}
 use lib.ListN.{length, drop}
 use Rattle.boot_config.specs.Registers.{rising}
-use Rattle.boot_config.proofs.RegisterLaws.{rising_on, rising_not, rising_end}
 use Rattle.boot_config.proofs.is_rising.Given as goal
 
 abbrev pub invariant-loop-i : goal.invariant-loop-i

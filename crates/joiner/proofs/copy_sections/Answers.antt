@@ -1,16 +1,14 @@
 -- `joiner::copy_sections`: the sections before the offset are copied as one run, and the table is whole from there on.
-use Prim.Native.Nat.{ℕ, ◌≤◌, ◌+◌, ◌-◌}
+use Prim.Native.Nat.{ℕ, ◌-◌}
 use mathlib.Core.Path.{◌≡◌, refl, sym, ap, ◌∙◌}
 use mathlib.Core.List.{List}
 use native.Mathlib.Omega.{arith}
-use borrow.Author.Rules.{rules}
 use lib.ListN.{length, take, drop, length-take, length-drop}
 use lib.Seq.{length-take-le}
-use Rattle.words.specs.declared.ByteOrder.{ByteOrder}
 use Rattle.words.specs.Run.{over}
 use Rattle.words.proofs.RunLaws.{lent_back, over_none, length_over}
 use Rattle.boot_table.specs.declared.Step.TheVariants.{Section}
-use Rattle.boot_table.specs.Table.{step_at, read_on}
+use Rattle.boot_table.specs.Table.{step_at}
 use Rattle.boot_table.proofs.StepLaws.{section_of, end_of}
 use Rattle.boot_table.proofs.ReadLaws.{read_else, read_room, read_next}
 use Rattle.boot_table.proofs.FormLaws.{well_read}
@@ -21,7 +19,14 @@ use Rattle.joiner.proofs.copy_sections.Goals.{In-Section}
 pub loop-next-init : goal.loop-next-init
 loop-next-init c =
     let w = (well_read _ c.args.table.now c.requires.well_formed).1 in
-    record { low = omega arith; whole = w; room = read_room _ _ _ w; place = omega arith; same = refl; is = sym (over_none _ _) }
+    record {
+      low = omega arith;
+      whole = w;
+      room = read_room _ _ _ w;
+      place = omega arith;
+      same = refl;
+      is = sym (over_none _ _);
+    }
 
 pub shape_of-output-in_default : goal.shape_of-output-in_default
 shape_of-output-in_default c = c.loop-next.invariant.same
@@ -30,7 +35,11 @@ pub returns-in_default : goal.returns-in_default
 returns-in_default c =
     let t = c.args.table.now in
     let e = end_of _ t c.loop-next.at (read_else _ _ _ c.step_at-step.result c.step_at-step.ensures c.in_default.not-Section c.loop-next.invariant.whole) in
-    let z : c.loop-next.at - 4 ≡ length t - 8 = omega arith in record { result_value = omega arith; output_after = rw (← z) c.loop-next.invariant.is }
+    let z : c.loop-next.at - 4 ≡ length t - 8 = omega arith in
+    record {
+      result_value = omega arith;
+      output_after = rw (← z) c.loop-next.invariant.is;
+    }
 
 -- a turn that finds a section
 step_is : (c : In-Section) → step_at c.args.order c.args.table.now c.loop-next.at ≡ Section c.in-Section.address c.in-Section.size c.in-Section.start c.in-Section.next

@@ -1,20 +1,11 @@
 -- `joiner::copy_sections`: the sections before the offset are copied as one run, and the table is whole from there on.
 use Prim.Native.Nat.{ℕ, ◌≤◌, ◌+◌, ◌-◌}
-use mathlib.Core.Path.{◌≡◌, refl, sym, ap, ◌∙◌}
+use mathlib.Core.Path.{◌≡◌}
 use mathlib.Core.List.{List}
-use native.Mathlib.Omega.{arith}
-use borrow.Author.Rules.{rules}
-use lib.ListN.{length, take, drop, length-take, length-drop}
-use lib.Seq.{length-take-le}
+use lib.ListN.{length, take, drop}
 use Rattle.words.specs.declared.ByteOrder.{ByteOrder}
 use Rattle.words.specs.Run.{over}
-use Rattle.words.proofs.RunLaws.{lent_back, over_none, length_over}
-use Rattle.boot_table.specs.declared.Step.TheVariants.{Section}
-use Rattle.boot_table.specs.Table.{step_at, read_on}
-use Rattle.boot_table.proofs.StepLaws.{section_of, end_of}
-use Rattle.boot_table.proofs.ReadLaws.{read_else, read_room, read_next}
-use Rattle.boot_table.proofs.FormLaws.{well_read}
-use Rattle.joiner.proofs.WriteLaws.{copy_section}
+use Rattle.boot_table.specs.Table.{read_on}
 use Rattle.joiner.proofs.copy_sections.Given as goal
 
 -- the table is whole from at on, and its sections before at are copied into the output, where they end at offset to

@@ -10,17 +10,24 @@ use Rattle.boot_table.specs.Form.{table_limit, form_of, WellFormed}
 use Rattle.boot_table.proofs.FormLaws.{form_well, well_long, well_few, well_form}
 use Rattle.joiner.specs.Join.{joined_length}
 use Rattle.joiner.proofs.AnswerLaws.{first_refused, second_refused, join_long, output_short, join_done, output_kept, output_joined}
-use borrow.Author.Rules.{rules}
 use Rattle.joiner.proofs.join.Goals as goal
 use Rattle.joiner.proofs.join.Goals.{Else-b-ne0}
 
 pub returns-then-a-ne0 : goal.returns-then-a-ne0
 returns-then-a-ne0 c =
-    let e = first_refused _ _ _ _ _ c.form_of-a.ensures c.if-a-ne0.true in record { value = c.refused.ensures ∙ e; output_after = output_kept _ _ _ _ _ e c.if-a-ne0.true }
+    let e = first_refused _ _ _ _ _ c.form_of-a.ensures c.if-a-ne0.true in
+    record {
+      value = c.refused.ensures ∙ e;
+      output_after = output_kept _ _ _ _ _ e c.if-a-ne0.true;
+    }
 
 pub returns-then-b-ne0 : goal.returns-then-b-ne0
 returns-then-b-ne0 c =
-    let e = second_refused _ _ _ _ _ c.form_of-a.ensures c.if-a-ne0.false _ c.form_of-b.ensures c.if-b-ne0.true in record { value = c.refused-then-b-ne0.ensures ∙ e; output_after = output_kept _ _ _ _ _ e c.if-b-ne0.true }
+    let e = second_refused _ _ _ _ _ c.form_of-a.ensures c.if-a-ne0.false _ c.form_of-b.ensures c.if-b-ne0.true in
+    record {
+      value = c.refused-then-b-ne0.ensures ∙ e;
+      output_after = output_kept _ _ _ _ _ e c.if-b-ne0.true;
+    }
 
 -- both tables are well-formed
 first-well : (c : Else-b-ne0) → WellFormed c.args.order c.args.first.now
@@ -38,14 +45,22 @@ unfolding joined_length
 returns-then-size-gt-TABLE_LIMIT c =
     let e = join_long _ c.args.first.now c.args.second.now (length c.args.output.now)
     _ c.form_of-a.ensures c.if-a-ne0.false _ c.form_of-b.ensures c.if-b-ne0.false
-    (omega (arith, c.if-size-gt-TABLE_LIMIT.true)) in record { value = c.refused-then-size-gt-TABLE_LIMIT.ensures ∙ e; output_after = output_kept _ _ _ _ _ e (λ z. omega arith) }
+    (omega arith) in
+    record {
+      value = c.refused-then-size-gt-TABLE_LIMIT.ensures ∙ e;
+      output_after = output_kept _ _ _ _ _ e (λ z. omega arith);
+    }
 
 pub returns-then-output-size : goal.returns-then-output-size
 unfolding joined_length
 returns-then-output-size c =
     let e = output_short _ c.args.first.now c.args.second.now (length c.args.output.now)
     _ c.form_of-a.ensures c.if-a-ne0.false _ c.form_of-b.ensures c.if-b-ne0.false
-    (omega (arith, c.if-size-gt-TABLE_LIMIT.false)) (omega (arith, c.if-output-size.true)) in record { value = c.refused-then-output-size.ensures ∙ e; output_after = output_kept _ _ _ _ _ e (λ z. omega arith) }
+    (omega arith) (omega arith) in
+    record {
+      value = c.refused-then-output-size.ensures ∙ e;
+      output_after = output_kept _ _ _ _ _ e (λ z. omega arith);
+    }
 
 -- a form counts no more sections and data bytes than a table has bytes
 few : (o : ByteOrder) (t : List ℕ) (f : Form) → f ≡ form_of o t → WellFormed o t → f.sections + f.bytes ≤ table_limit
@@ -58,11 +73,18 @@ overflow_add-sections c =
 pub write_join-requires : goal.write_join-requires
 unfolding joined_length
 write_join-requires c =
-    record { well_formed = (first-well (goal.at.write_join-requires c).Else-b-ne0, second-well (goal.at.write_join-requires c).Else-b-ne0); second_in_bounds = omega (arith, c.if-output-size.false) }
+    record {
+      well_formed = (first-well (goal.at.write_join-requires c).Else-b-ne0, second-well (goal.at.write_join-requires c).Else-b-ne0);
+      second_in_bounds = omega arith;
+    }
 
 pub returns : goal.returns
 unfolding joined_length
 returns c =
     let e = join_done _ c.args.first.now c.args.second.now (length c.args.output.now)
     _ c.form_of-a.ensures c.if-a-ne0.false _ c.form_of-b.ensures c.if-b-ne0.false
-    (omega (arith, c.if-size-gt-TABLE_LIMIT.false)) (omega (arith, c.if-output-size.false)) in record { value = e; output_after = c.write_join.ensures ∙ output_joined _ _ _ _ _ e refl }
+    (omega arith) (omega arith) in
+    record {
+      value = e;
+      output_after = c.write_join.ensures ∙ output_joined _ _ _ _ _ e refl;
+    }

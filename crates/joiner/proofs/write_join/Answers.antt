@@ -27,11 +27,17 @@ put_header-requires c = omega (arith, sizes (goal.at.put_header-requires c).Star
 
 pub copy_sections-middle-requires : goal.copy_sections-middle-requires
 copy_sections-middle-requires c =
-    record { well_formed = search rules; table_in_bounds = omega (arith, sizes (goal.at.copy_sections-middle-requires c).Start) }
+    record {
+      well_formed = search rules;
+      table_in_bounds = omega (arith, sizes (goal.at.copy_sections-middle-requires c).Start);
+    }
 
 pub copy_sections-end-requires : goal.copy_sections-end-requires
 copy_sections-end-requires c =
-    record { well_formed = search rules; table_in_bounds = omega (arith, sizes (goal.at.copy_sections-end-requires c).Start) }
+    record {
+      well_formed = search rules;
+      table_in_bounds = omega (arith, sizes (goal.at.copy_sections-end-requires c).Start);
+    }
 
 pub put_header-requires-2 : goal.put_header-requires-2
 put_header-requires-2 c = omega (arith, sizes (goal.at.put_header-requires-2 c).Start)
@@ -48,5 +54,5 @@ returns c =
     ∙ ap (λ (x : List ℕ). over x end (header_bytes o 0)) (c.copy_sections-end.ensures.output_after
     ∙ ap (λ (x : List ℕ). over x middle (section_bytes b)) (c.copy_sections-middle.ensures.output_after
     ∙ ap (λ (x : List ℕ). over x 4 (section_bytes a)) (c.put_header.ensures ∙ ap (λ (n : ℕ). over d 0 (header_bytes o n)) c.entry_of.ensures)))
-    ∙ parts_joined o a b d (λ i. (c.shared_slice_known-1.given i).fits) (λ i. (c.shared_slice_known-2-1.given i).fits)
+    ∙ parts_joined o a b d (λ i. (c.type_inv.first i).fits) (λ i. (c.type_inv.second i).fits)
     c.requires.well_formed.0 c.requires.well_formed.1 c.requires.second_in_bounds middle end c.copy_sections-middle.ensures.result_value c.copy_sections-end.ensures.result_value

@@ -1,7 +1,6 @@
 -- `query::find`: the answer is the one for what the two walks came to.
 use mathlib.Core.Path.{sym, ◌∙◌}
 use native.Mathlib.Omega.{arith}
-use borrow.Author.Rules.{rules}
 use Rattle.query.proofs.FindLaws.{find_first, find_second, find_both, read_few}
 use Rattle.query.proofs.find.Goals as goal
 

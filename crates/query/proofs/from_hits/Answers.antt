@@ -1,6 +1,5 @@
 -- `query::from_hits`: by the cases of the newer hit, and then of the older.
 use mathlib.Core.Path.{sym, ap, ◌∙◌}
-use borrow.Author.Rules.{rules}
 use Rattle.query.specs.declared.Hit.{Hit}
 use Rattle.query.specs.declared.Hit.TheVariants.{Nowhere}
 use Rattle.query.specs.Find.{from_hits}

@@ -4,7 +4,6 @@ use mathlib.Core.Path.{◌≡◌, sym}
 use mathlib.Core.Logic.{by_cases}
 use native.Mathlib.Omega.{arith}
 use native.Mathlib.Decide.{dec_le}
-use borrow.Author.Rules.{rules}
 use borrow.Author.Tests.{lt-leb, le-leb, lt-ltb, le-ltb}
 use Rattle.query.specs.declared.Hit.TheVariants.{Nowhere, At}
 use Rattle.query.specs.OneSection.{hit_in}
@@ -14,12 +13,14 @@ use Rattle.query.proofs.hit_in.Goals as goal
 module _ (first size start a : ℕ) (top : first + size ≤ 2 ^ 32) (word : a < 2 ^ 32) where
   abbrev past : ℕ
   past = (2 ^ 32 + a - first) % 2 ^ 32
+
   not_covered : size ≤ past → hit_in first size start a ≡ Nowhere
   unfolding hit_in
   not_covered h =
       by_cases (dec_le first a)
       (λ k. simp (le-leb first a k, le-ltb a (first + size) (omega arith)))
       (λ n. simp (lt-leb first a (omega arith)))
+
   covered : past < size → hit_in first size start a ≡ At (start + past) (size - past)
   unfolding hit_in
   covered h =

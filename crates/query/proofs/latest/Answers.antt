@@ -1,6 +1,5 @@
 -- `query::latest`: by the cases of the later hit.
 use mathlib.Core.Path.{sym, ap}
-use borrow.Author.Rules.{rules}
 use Rattle.query.specs.Find.{latest}
 use Rattle.query.proofs.latest.Goals as goal
 

@@ -1,7 +1,6 @@
 -- `query::part`: the part is lent out of the table that the answer names.
 use mathlib.Core.Path.{sym, ap, ◌∙◌}
 use native.Mathlib.Omega.{arith}
-use borrow.Author.Rules.{rules}
 use lib.ListN.{length}
 use Rattle.query.proofs.FindLaws.{find_inside, find_fits, chosen_newer, chosen_older, part_lent, start_lent}
 use Rattle.query.proofs.part.Goals as goal
@@ -17,7 +16,11 @@ slice_bounds-result-end c =
 pub returns-then-is_newer : goal.returns-then-is_newer
 returns-then-is_newer c =
     let r = c.find-found.result in
-    let yes = sym c.is_newer.ensures ∙ c.if-is_newer.true in record { result_value = part_lent r _ _ _ _ c.find-found.ensures (chosen_newer r c.args.older.now c.args.newer.now yes); ref_ptr_value = start_lent r _ _ _ _ _ c.find-found.ensures (chosen_newer r c.args.older.ref_ptr c.args.newer.ref_ptr yes) (omega arith) }
+    let yes = sym c.is_newer.ensures ∙ c.if-is_newer.true in
+    record {
+      result_value = part_lent r _ _ _ _ c.find-found.ensures (chosen_newer r c.args.older.now c.args.newer.now yes);
+      ref_ptr_value = start_lent r _ _ _ _ _ c.find-found.ensures (chosen_newer r c.args.older.ref_ptr c.args.newer.ref_ptr yes) (omega arith);
+    }
 
 pub slice_bounds-result-end-2 : goal.slice_bounds-result-end-2
 slice_bounds-result-end-2 c =
@@ -27,4 +30,8 @@ slice_bounds-result-end-2 c =
 pub returns : goal.returns
 returns c =
     let r = c.find-found.result in
-    let no = sym c.is_newer.ensures ∙ c.if-is_newer.false in record { result_value = part_lent r _ _ _ _ c.find-found.ensures (chosen_older r c.args.older.now c.args.newer.now no); ref_ptr_value = start_lent r _ _ _ _ _ c.find-found.ensures (chosen_older r c.args.older.ref_ptr c.args.newer.ref_ptr no) (omega arith) }
+    let no = sym c.is_newer.ensures ∙ c.if-is_newer.false in
+    record {
+      result_value = part_lent r _ _ _ _ c.find-found.ensures (chosen_older r c.args.older.now c.args.newer.now no);
+      ref_ptr_value = start_lent r _ _ _ _ _ c.find-found.ensures (chosen_older r c.args.older.ref_ptr c.args.newer.ref_ptr no) (omega arith);
+    }

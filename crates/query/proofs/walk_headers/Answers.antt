@@ -1,17 +1,10 @@
 -- `query::walk_headers`: the hit and the bytes read so far, and what reading on finds, come to the walk over the table.
-use Prim.Native.Nat.{ℕ, ◌≤◌, ◌-◌}
 use mathlib.Core.Path.{◌≡◌, refl, sym, ◌∙◌}
-use mathlib.Core.List.{List}
 use native.Mathlib.Omega.{arith}
-use borrow.Author.Rules.{rules}
-use lib.ListN.{length}
-use Rattle.words.specs.declared.ByteOrder.{ByteOrder}
 use Rattle.boot_table.specs.declared.Step.TheVariants.{Section}
-use Rattle.boot_table.specs.Table.{step_at, read_on}
+use Rattle.boot_table.specs.Table.{step_at}
 use Rattle.boot_table.proofs.StepLaws.{section_of, end_left}
-use Rattle.query.specs.declared.Hit.{Hit}
-use Rattle.query.specs.Find.{latest, walked}
-use Rattle.query.proofs.WalkLaws.{resume, walk_long, walk_cut, walk_start, walk_section, walk_end, walk_fault}
+use Rattle.query.proofs.WalkLaws.{walk_long, walk_cut, walk_start, walk_section, walk_end, walk_fault}
 use Rattle.query.proofs.walk_headers.Goals as goal
 use Rattle.query.proofs.walk_headers.Goals.{In-Section}
 
@@ -22,7 +15,12 @@ pub returns-then-table-lt4 : goal.returns-then-table-lt4
 returns-then-table-lt4 c = c.faulty-then-table-lt4.ensures ∙ sym (walk_cut _ _ _ (omega arith) (omega arith))
 
 pub loop-first-init : goal.loop-first-init
-loop-first-init c = record { within = omega arith; few = omega arith; is = walk_start _ _ _ (omega arith) (omega arith) }
+loop-first-init c =
+    record {
+      within = omega arith;
+      few = omega arith;
+      is = walk_start _ _ _ (omega arith) (omega arith);
+    }
 
 pub returns-in_default-step : goal.returns-in_default-step
 returns-in_default-step c =
@@ -47,4 +45,11 @@ loop-first-smaller c = omega (arith, section_of _ _ _ (step_is (goal.at.loop-fir
 pub loop-first-preserved : goal.loop-first-preserved
 loop-first-preserved c =
     let i = section_of _ _ _ (step_is (goal.at.loop-first-preserved c).In-Section) in
-    record { within = i.within; few = omega arith; is = c.loop-first.invariant.is ∙ walk_section _ _ _ _ _ _ (step_is (goal.at.loop-first-preserved c).In-Section) ∙ rw (c.latest-hit.ensures, c.hit_in.ensures) refl }
+    record {
+      within = i.within;
+      few = omega arith;
+      is =
+          c.loop-first.invariant.is
+          ∙ walk_section _ _ _ _ _ _ (step_is (goal.at.loop-first-preserved c).In-Section)
+          ∙ rw (c.latest-hit.ensures, c.hit_in.ensures) refl;
+    }

@@ -1,17 +1,13 @@
 -- `query::walk_headers`: the hit and the bytes read so far, and what reading on finds, come to the walk over the table.
 use Prim.Native.Nat.{ℕ, ◌≤◌, ◌-◌}
-use mathlib.Core.Path.{◌≡◌, refl, sym, ◌∙◌}
+use mathlib.Core.Path.{◌≡◌}
 use mathlib.Core.List.{List}
-use native.Mathlib.Omega.{arith}
-use borrow.Author.Rules.{rules}
 use lib.ListN.{length}
 use Rattle.words.specs.declared.ByteOrder.{ByteOrder}
-use Rattle.boot_table.specs.declared.Step.TheVariants.{Section}
-use Rattle.boot_table.specs.Table.{step_at, read_on}
-use Rattle.boot_table.proofs.StepLaws.{section_of, end_left}
+use Rattle.boot_table.specs.Table.{read_on}
 use Rattle.query.specs.declared.Hit.{Hit}
-use Rattle.query.specs.Find.{latest, walked}
-use Rattle.query.proofs.WalkLaws.{resume, walk_long, walk_cut, walk_start, walk_section, walk_end, walk_fault}
+use Rattle.query.specs.Find.{walked}
+use Rattle.query.proofs.WalkLaws.{resume}
 use Rattle.query.proofs.walk_headers.Given as goal
 
 -- no more bytes were read than stand before at, and what is read on decides what the walk comes to

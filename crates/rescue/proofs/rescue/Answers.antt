@@ -12,19 +12,9 @@ use Rattle.boot_table.specs.Form.{table_limit}
 use Rattle.rescue.specs.declared.Run.{Run}
 use Rattle.rescue.specs.Rescue.{rescued, used_bytes, done_answer}
 use Rattle.rescue.proofs.WholeRunLaws.{Front, run_front}
-use Rattle.rescue.proofs.AnswerLaws.{table_long, entry_cut, result_long, output_short, rescue_done, output_kept, output_rescued}
-use borrow.Author.Rules.{rules}
+use Rattle.rescue.proofs.AnswerLaws.{rescue_done, output_rescued}
 use Rattle.rescue.proofs.rescue.Goals as goal
 use Rattle.rescue.proofs.rescue.Goals.{After-whole_run-run}
-
-pub returns-then-table-gt-TABLE_LIMIT : goal.returns-then-table-gt-TABLE_LIMIT
-returns-then-table-gt-TABLE_LIMIT c =
-    let e = table_long c.args.order c.args.table.now (length c.args.output.now) (omega (arith, c.if-table-gt-TABLE_LIMIT.true)) in record { value = c.refused.ensures ∙ e; output_after = output_kept _ _ _ _ e (λ z. omega arith) }
-
-pub returns-then-table-lt4 : goal.returns-then-table-lt4
-returns-then-table-lt4 c =
-    let e = entry_cut c.args.order c.args.table.now (length c.args.output.now)
-    (omega (arith, c.if-table-gt-TABLE_LIMIT.false)) (omega (arith, c.if-table-lt4.true)) in record { value = c.refused-then-table-lt4.ensures ∙ e; output_after = output_kept _ _ _ _ e (λ z. omega arith) }
 
 -- what the tests before the run and the run itself say
 record Ready (o : ByteOrder) (t : List ℕ) (r : Run) : Type 0 where
@@ -34,27 +24,15 @@ record Ready (o : ByteOrder) (t : List ℕ) (r : Run) : Type 0 where
 
 ready : (c : After-whole_run-run) → Ready c.args.order c.args.table.now c.whole_run-run.result
 ready c =
-    let long : 4 ≤ length c.args.table.now = omega (arith, c.if-table-lt4.false) in
+    let long : 4 ≤ length c.args.table.now = omega arith in
     record {
-      short = omega (arith, c.if-table-gt-TABLE_LIMIT.false);
+      short = omega arith;
       long = long;
       front = run_front _ _ (λ i. (c.type_inv.table i).fits) long _ c.whole_run-run.ensures;
     }
 
 pub overflow_add-length : goal.overflow_add-length
 overflow_add-length c = let f = ready (goal.at.overflow_add-length c).After-whole_run-run in omega (arith, f.front.within, f.short)
-
-pub returns-then-length-gt-TABLE_LIMIT : goal.returns-then-length-gt-TABLE_LIMIT
-returns-then-length-gt-TABLE_LIMIT c =
-    let f = ready (goal.at.returns-then-length-gt-TABLE_LIMIT c).After-whole_run-run in
-    let e = result_long c.args.order c.args.table.now (length c.args.output.now) f.short f.long
-    (omega (arith, f.front.size, c.if-length-gt-TABLE_LIMIT.true)) in record { value = c.refused-then-length-gt-TABLE_LIMIT.ensures ∙ e; output_after = output_kept _ _ _ _ e (λ z. omega arith) }
-
-pub returns-then-output-length : goal.returns-then-output-length
-returns-then-output-length c =
-    let f = ready (goal.at.returns-then-output-length c).After-whole_run-run in
-    let e = output_short c.args.order c.args.table.now (length c.args.output.now) f.short f.long
-    (omega (arith, f.front.size, c.if-length-gt-TABLE_LIMIT.false)) (omega (arith, f.front.size, c.if-output-length.true)) in record { value = c.refused-then-output-length.ensures ∙ e; output_after = output_kept _ _ _ _ e (λ z. omega arith) }
 
 pub slice_bounds-write_rescued-end : goal.slice_bounds-write_rescued-end
 slice_bounds-write_rescued-end c =
@@ -64,7 +42,7 @@ slice_bounds-write_rescued-end c =
 pub write_rescued-requires : goal.write_rescued-requires
 write_rescued-requires c =
     let f = ready (goal.at.write_rescued-requires c).After-whole_run-run in
-    omega (arith, length-take-le c.whole_run-run.result.end c.args.table.now f.front.within, c.if-output-length.false)
+    omega (arith, length-take-le c.whole_run-run.result.end c.args.table.now f.front.within)
 
 pub overflow_sub-unused : goal.overflow_sub-unused
 overflow_sub-unused c =
@@ -80,7 +58,7 @@ returns c =
     let f = r.front in
     let n : length t - c.used.result ≡ length t - used_bytes o t = ap (λ (n : ℕ). length t - n) (c.used.ensures ∙ f.used) in
     let e = rescue_done o t (length out) r.short r.long
-        (omega (arith, f.size, c.if-length-gt-TABLE_LIMIT.false)) (omega (arith, f.size, c.if-output-length.false)) in
+    (omega (arith, f.size)) (omega (arith, f.size)) in
     record {
       value = (λ i. record { number = 0; place = 0; length = sym f.size i; sections = f.count i; unused = n i; added = f.added i }) ∙ e;
       output_after =

@@ -1,6 +1,5 @@
 -- `rescue::used`: by whether a zero word stands behind the sections.
 use mathlib.Core.Path.{refl}
-use borrow.Author.Rules.{rules}
 use Rattle.rescue.specs.WholeRun.{used_to}
 use Rattle.rescue.proofs.used.Goals as goal
 

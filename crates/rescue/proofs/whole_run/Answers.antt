@@ -1,17 +1,11 @@
 -- `rescue::whole_run`: the sections that were passed and those that are read on come to the run of the table.
-use Prim.Native.Nat.{ℕ, ◌≤◌, ◌-◌}
 use mathlib.Core.Path.{◌≡◌, refl, sym, ◌∙◌}
-use mathlib.Core.List.{List}
 use native.Mathlib.Omega.{arith}
-use borrow.Author.Rules.{rules}
 use borrow.Author.Tests.{ne_eqb}
-use lib.ListN.{length}
-use Rattle.words.specs.declared.ByteOrder.{ByteOrder}
 use Rattle.boot_table.specs.declared.Step.TheVariants.{Section}
-use Rattle.boot_table.specs.Table.{step_at, read_on}
+use Rattle.boot_table.specs.Table.{step_at}
 use Rattle.boot_table.proofs.StepLaws.{section_of, fault_number, end_left}
 use Rattle.rescue.specs.Rescue.{has_zero}
-use Rattle.rescue.specs.WholeRun.{run_on, whole_run}
 use Rattle.rescue.proofs.WholeRunLaws.{run_starts, run_section, run_end, run_fault}
 use Rattle.rescue.proofs.whole_run.Goals as goal
 use Rattle.rescue.proofs.whole_run.Goals.{In-Section}
@@ -41,4 +35,8 @@ loop-next-smaller c = omega (arith, section_of _ _ _ (step_is (goal.at.loop-next
 pub loop-next-preserved : goal.loop-next-preserved
 loop-next-preserved c =
     let i = section_of _ _ _ (step_is (goal.at.loop-next-preserved c).In-Section) in
-    record { within = i.within; few = omega arith; run = c.loop-next.invariant.run ∙ run_section _ _ _ _ (step_is (goal.at.loop-next-preserved c).In-Section) }
+    record {
+      within = i.within;
+      few = omega arith;
+      run = c.loop-next.invariant.run ∙ run_section _ _ _ _ (step_is (goal.at.loop-next-preserved c).In-Section);
+    }

@@ -1,18 +1,11 @@
 -- `rescue::whole_run`: the sections that were passed and those that are read on come to the run of the table.
 use Prim.Native.Nat.{ℕ, ◌≤◌, ◌-◌}
-use mathlib.Core.Path.{◌≡◌, refl, sym, ◌∙◌}
+use mathlib.Core.Path.{◌≡◌}
 use mathlib.Core.List.{List}
-use native.Mathlib.Omega.{arith}
-use borrow.Author.Rules.{rules}
-use borrow.Author.Tests.{ne_eqb}
 use lib.ListN.{length}
 use Rattle.words.specs.declared.ByteOrder.{ByteOrder}
-use Rattle.boot_table.specs.declared.Step.TheVariants.{Section}
-use Rattle.boot_table.specs.Table.{step_at, read_on}
-use Rattle.boot_table.proofs.StepLaws.{section_of, fault_number, end_left}
-use Rattle.rescue.specs.Rescue.{has_zero}
+use Rattle.boot_table.specs.Table.{read_on}
 use Rattle.rescue.specs.WholeRun.{run_on, whole_run}
-use Rattle.rescue.proofs.WholeRunLaws.{run_starts, run_section, run_end, run_fault}
 use Rattle.rescue.proofs.whole_run.Given as goal
 
 -- k sections stand before at, and what is read on decides the run
