@@ -7,4 +7,4 @@ use Rattle.tuneharbor.proofs.tuneharbor_strap.Goals as goal
 pub returns : goal.returns
 returns c =
     let manner = ap (λ (m : Manner). numbers_as m c.args.value) c.manner_of.ensures in
-    c.numbers.ensures ∙ ap nine (c.decode_as.ensures.result_value ∙ manner)
+    c.numbers.ensures ∙ ap nine (c.decode_as.ensures.numbers ∙ manner)
