@@ -72,6 +72,7 @@ fn write_join(first: &[u8], second: &[u8], order: ByteOrder, output: &mut [u8])
 }
 
 // Joins two tables into the output, in their byte order: the second's entry, the first's sections, the second's sections, zero word.
+#[tactic(auto, using(crate::proofs::AnswerLaws::first_refused, crate::proofs::AnswerLaws::second_refused, crate::proofs::AnswerLaws::join_long, crate::proofs::AnswerLaws::output_short, crate::proofs::AnswerLaws::output_kept), unfolding(crate::specs::Join::joined_length))]
 pub fn join(first: &[u8], second: &[u8], order: ByteOrder, output: &mut [u8]) -> Joined
     ensures value { result ≡ join_answer order first.now second.now (length output.old) }
     ensures output_after { output.new ≡ join_output order first.now second.now output.old }

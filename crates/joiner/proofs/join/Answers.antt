@@ -9,25 +9,9 @@ use Rattle.boot_table.specs.declared.Form.{Form}
 use Rattle.boot_table.specs.Form.{table_limit, form_of, WellFormed}
 use Rattle.boot_table.proofs.FormLaws.{form_well, well_long, well_few, well_form}
 use Rattle.joiner.specs.Join.{joined_length}
-use Rattle.joiner.proofs.AnswerLaws.{first_refused, second_refused, join_long, output_short, join_done, output_kept, output_joined}
+use Rattle.joiner.proofs.AnswerLaws.{join_done, output_joined}
 use Rattle.joiner.proofs.join.Goals as goal
 use Rattle.joiner.proofs.join.Goals.{Else-b-ne0}
-
-pub returns-then-a-ne0 : goal.returns-then-a-ne0
-returns-then-a-ne0 c =
-    let e = first_refused _ _ _ _ _ c.form_of-a.ensures c.if-a-ne0.true in
-    record {
-      value = c.refused.ensures ∙ e;
-      output_after = output_kept _ _ _ _ _ e c.if-a-ne0.true;
-    }
-
-pub returns-then-b-ne0 : goal.returns-then-b-ne0
-returns-then-b-ne0 c =
-    let e = second_refused _ _ _ _ _ c.form_of-a.ensures c.if-a-ne0.false _ c.form_of-b.ensures c.if-b-ne0.true in
-    record {
-      value = c.refused-then-b-ne0.ensures ∙ e;
-      output_after = output_kept _ _ _ _ _ e c.if-b-ne0.true;
-    }
 
 -- both tables are well-formed
 first-well : (c : Else-b-ne0) → WellFormed c.args.order c.args.first.now
@@ -39,28 +23,6 @@ second-well c = form_well _ _ (ap (λ (f : Form). f.number) (sym c.form_of-b.ens
 
 pub overflow_sub-size : goal.overflow_sub-size
 overflow_sub-size c = omega (arith, well_long _ _ (first-well (goal.at.overflow_sub-size c).Else-b-ne0))
-
-pub returns-then-size-gt-TABLE_LIMIT : goal.returns-then-size-gt-TABLE_LIMIT
-unfolding joined_length
-returns-then-size-gt-TABLE_LIMIT c =
-    let e = join_long _ c.args.first.now c.args.second.now (length c.args.output.now)
-    _ c.form_of-a.ensures c.if-a-ne0.false _ c.form_of-b.ensures c.if-b-ne0.false
-    (omega arith) in
-    record {
-      value = c.refused-then-size-gt-TABLE_LIMIT.ensures ∙ e;
-      output_after = output_kept _ _ _ _ _ e (λ z. omega arith);
-    }
-
-pub returns-then-output-size : goal.returns-then-output-size
-unfolding joined_length
-returns-then-output-size c =
-    let e = output_short _ c.args.first.now c.args.second.now (length c.args.output.now)
-    _ c.form_of-a.ensures c.if-a-ne0.false _ c.form_of-b.ensures c.if-b-ne0.false
-    (omega arith) (omega arith) in
-    record {
-      value = c.refused-then-output-size.ensures ∙ e;
-      output_after = output_kept _ _ _ _ _ e (λ z. omega arith);
-    }
 
 -- a form counts no more sections and data bytes than a table has bytes
 few : (o : ByteOrder) (t : List ℕ) (f : Form) → f ≡ form_of o t → WellFormed o t → f.sections + f.bytes ≤ table_limit
