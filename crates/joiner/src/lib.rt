@@ -36,8 +36,8 @@ fn refused(number: u32, place: usize, which: u32) -> Joined
 // Copies the sections of a well-formed table, as they stand, into the output from an offset on; answers the offset after them.
 fn copy_sections(table: &[u8], order: ByteOrder, output: &mut [u8], from: usize) -> usize
     requires well_formed { WellFormed order table.now }
-    requires table_in_bounds { from + length table.now ≤ length output.old + 8 }
-    ensures result_value { result + 8 ≡ from + length table.now }
+    requires room { from + length table.now ≤ length output.old + 8 }
+    ensures ends { result + 8 ≡ from + length table.now }
     ensures output_after { output.new ≡ over output.old from (section_bytes table.now) }
 {
     let mut at: usize = 4;
@@ -62,7 +62,7 @@ fn copy_sections(table: &[u8], order: ByteOrder, output: &mut [u8], from: usize)
 // Writes the join of two well-formed tables to the front of an output that has room for it.
 fn write_join(first: &[u8], second: &[u8], order: ByteOrder, output: &mut [u8])
     requires well_formed { WellFormed order first.now × WellFormed order second.now }
-    requires second_in_bounds { joined_length first.now second.now ≤ length output.old }
+    requires room { joined_length first.now second.now ≤ length output.old }
     ensures { output.new ≡ joined_over order first.now second.now output.old }
 {
     put_header(entry_of(second, order), order, output, 0);

@@ -69,9 +69,9 @@ module _ (o : ByteOrder) (m older newer mem : List ℕ) (a : ℕ) (both : BothLo
     byte = byte;
   }
 
-  in_newer_lem : answer.table ≡ 2 → Stands o m older newer mem a
-  in_newer_lem e =
-      let l = covers_byte 4 (reading o newer).sections a answer.offset bytes (says.in_newer_lem e) in
+  in_newer : answer.table ≡ 2 → Stands o m older newer mem a
+  in_newer e =
+      let l = covers_byte 4 (reading o newer).sections a answer.offset bytes (says.in_newer e) in
       let is = covered_open m second.opens a (covered (reading o newer).sections (get_or bytes 0 0) l.0) in
       stands (omega arith) is l.1 (after is ∙ rw l.0 refl)
 
@@ -88,7 +88,7 @@ module _ (o : ByteOrder) (m older newer mem : List ℕ) (a : ℕ) (both : BothLo
   by_table : (n : ℕ) → answer.table ≡ n → Stands o m older newer mem a
   by_table zero e = absurd (in_neither e)
   by_table (suc zero) e = in_older e
-  by_table (suc (suc zero)) e = in_newer_lem e
+  by_table (suc (suc zero)) e = in_newer e
   by_table (suc (suc (suc n))) e = absurd (omega (arith, says.tables))
 
 -- Where both tables load and one covers the address, the part that is found begins with the byte that is left there.

@@ -110,7 +110,7 @@ module _ (o : ByteOrder) (older newer : List ℕ) (a read : ℕ)
   hits_say : (h k : Hit) → HitSays 4 (reading o older).sections older a h → HitSays 4 (reading o newer).sections newer a k → Says o older newer a (from_hits h k read)
   unfolding part_bytes part_start chosen in_newer
   hits_say h (At offset size) p q = record {
-    in_newer_lem = λ e. q.0;
+    in_newer = λ e. q.0;
     in_older = λ e. absurd (omega arith);
     in_neither = λ e. absurd (omega arith);
     tables = omega arith;
@@ -119,7 +119,7 @@ module _ (o : ByteOrder) (older newer : List ℕ) (a read : ℕ)
     count = count;
   }
   hits_say (At offset size) Nowhere p q = record {
-    in_newer_lem = λ e. absurd (omega arith);
+    in_newer = λ e. absurd (omega arith);
     in_older = λ e. (q, p.0);
     in_neither = λ e. absurd (omega arith);
     tables = omega arith;
@@ -128,7 +128,7 @@ module _ (o : ByteOrder) (older newer : List ℕ) (a read : ℕ)
     count = count;
   }
   hits_say Nowhere Nowhere p q = record {
-    in_newer_lem = λ e. absurd (omega arith);
+    in_newer = λ e. absurd (omega arith);
     in_older = λ e. absurd (omega arith);
     in_neither = λ e. (q, p, refl, refl, no_part older newer (from_hits Nowhere Nowhere read) refl refl refl);
     tables = omega arith;

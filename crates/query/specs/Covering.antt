@@ -35,7 +35,7 @@ pub record NoPart (older newer : List ℕ) (r : Found) : Type 0 where
 -- what an answer says that is no refusal
 pub record Says (o : ByteOrder) (older newer : List ℕ) (a : ℕ) (r : Found) : Type 0 where
   -- table 2: the part is the data, from the byte for the address on, of the newer table's last section that covers it
-  pub in_newer_lem : r.table ≡ 2 → LastCovers 4 (reading o newer).sections a r.offset (part_bytes r older newer)
+  pub in_newer : r.table ≡ 2 → LastCovers 4 (reading o newer).sections a r.offset (part_bytes r older newer)
   -- table 1: no section of the newer table covers it, and the part is the older's
   pub in_older : r.table ≡ 1 → (Uncovered (reading o newer).sections a) × (LastCovers 4 (reading o older).sections a r.offset (part_bytes r older newer))
   -- table 0: no section of either covers it, offset and length are zero, and there is no part

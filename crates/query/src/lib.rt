@@ -186,8 +186,8 @@ fn is_newer(found: Found) -> bool
 // The part that stands at an address, as find tells it: of the newer table or of the older, from the byte for the address
 // to the end of its section's data; or the empty part at the older's start.
 pub fn part<'a>(older: &'a [u8], newer: &'a [u8], order: ByteOrder, address: u32) -> &'a [u8]
-    ensures result_value { result.now ≡ found_bytes order older.now newer.now address }
-    ensures ref_ptr_value { result.ref_ptr ≡ found_start order older.now newer.now address older.entry.ref_ptr newer.entry.ref_ptr }
+    ensures bytes { result.now ≡ found_bytes order older.now newer.now address }
+    ensures start { result.ref_ptr ≡ found_start order older.now newer.now address older.entry.ref_ptr newer.entry.ref_ptr }
 {
     let found = find(older, newer, order, address);
     let from = found.offset;

@@ -37,7 +37,7 @@ returns-in_default c =
     let e = end_of _ t c.loop-next.at (read_else _ _ _ c.step_at-step.result c.step_at-step.ensures c.in_default.not-Section c.loop-next.invariant.whole) in
     let z : c.loop-next.at - 4 ≡ length t - 8 = omega arith in
     record {
-      result_value = omega arith;
+      ends = omega arith;
       output_after = rw (← z) c.loop-next.invariant.is;
     }
 

@@ -37,7 +37,7 @@ unfolding joined_length
 write_join-requires c =
     record {
       well_formed = (first-well (goal.at.write_join-requires c).Else-b-ne0, second-well (goal.at.write_join-requires c).Else-b-ne0);
-      second_in_bounds = omega arith;
+      room = omega arith;
     }
 
 pub returns : goal.returns

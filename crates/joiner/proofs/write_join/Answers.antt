@@ -17,7 +17,7 @@ use Rattle.joiner.proofs.write_join.Goals.{Start}
 sizes : (c : Start) → (8 ≤ length c.args.first.now) × (8 ≤ length c.args.second.now)
     × (length c.args.first.now + length c.args.second.now ≤ length c.args.output.now + 8)
 unfolding joined_length
-sizes c = (well_long _ _ c.requires.well_formed.0, well_long _ _ c.requires.well_formed.1, omega (arith, c.requires.second_in_bounds))
+sizes c = (well_long _ _ c.requires.well_formed.0, well_long _ _ c.requires.well_formed.1, omega (arith, c.requires.room))
 
 pub entry_of-requires : goal.entry_of-requires
 entry_of-requires c = omega (arith, sizes (goal.at.entry_of-requires c).Start)
@@ -29,14 +29,14 @@ pub copy_sections-middle-requires : goal.copy_sections-middle-requires
 copy_sections-middle-requires c =
     record {
       well_formed = search rules;
-      table_in_bounds = omega (arith, sizes (goal.at.copy_sections-middle-requires c).Start);
+      room = omega (arith, sizes (goal.at.copy_sections-middle-requires c).Start);
     }
 
 pub copy_sections-end-requires : goal.copy_sections-end-requires
 copy_sections-end-requires c =
     record {
       well_formed = search rules;
-      table_in_bounds = omega (arith, sizes (goal.at.copy_sections-end-requires c).Start);
+      room = omega (arith, sizes (goal.at.copy_sections-end-requires c).Start);
     }
 
 pub put_header-requires-2 : goal.put_header-requires-2
@@ -55,4 +55,4 @@ returns c =
     ∙ ap (λ (x : List ℕ). over x middle (section_bytes b)) (c.copy_sections-middle.ensures.output_after
     ∙ ap (λ (x : List ℕ). over x 4 (section_bytes a)) (c.put_header.ensures ∙ ap (λ (n : ℕ). over d 0 (header_bytes o n)) c.entry_of.ensures)))
     ∙ parts_joined o a b d (λ i. (c.type_inv.first i).fits) (λ i. (c.type_inv.second i).fits)
-    c.requires.well_formed.0 c.requires.well_formed.1 c.requires.second_in_bounds middle end c.copy_sections-middle.ensures.result_value c.copy_sections-end.ensures.result_value
+    c.requires.well_formed.0 c.requires.well_formed.1 c.requires.room middle end c.copy_sections-middle.ensures.ends c.copy_sections-end.ensures.ends

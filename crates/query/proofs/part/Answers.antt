@@ -18,8 +18,8 @@ returns-then-is_newer c =
     let r = c.find-found.result in
     let yes = sym c.is_newer.ensures ∙ c.if-is_newer.true in
     record {
-      result_value = part_lent r _ _ _ _ c.find-found.ensures (chosen_newer r c.args.older.now c.args.newer.now yes);
-      ref_ptr_value = start_lent r _ _ _ _ _ c.find-found.ensures (chosen_newer r c.args.older.ref_ptr c.args.newer.ref_ptr yes) (omega arith);
+      bytes = part_lent r _ _ _ _ c.find-found.ensures (chosen_newer r c.args.older.now c.args.newer.now yes);
+      start = start_lent r _ _ _ _ _ c.find-found.ensures (chosen_newer r c.args.older.ref_ptr c.args.newer.ref_ptr yes) (omega arith);
     }
 
 pub slice_bounds-result-end-2 : goal.slice_bounds-result-end-2
@@ -32,6 +32,6 @@ returns c =
     let r = c.find-found.result in
     let no = sym c.is_newer.ensures ∙ c.if-is_newer.false in
     record {
-      result_value = part_lent r _ _ _ _ c.find-found.ensures (chosen_older r c.args.older.now c.args.newer.now no);
-      ref_ptr_value = start_lent r _ _ _ _ _ c.find-found.ensures (chosen_older r c.args.older.ref_ptr c.args.newer.ref_ptr no) (omega arith);
+      bytes = part_lent r _ _ _ _ c.find-found.ensures (chosen_older r c.args.older.now c.args.newer.now no);
+      start = start_lent r _ _ _ _ _ c.find-found.ensures (chosen_older r c.args.older.ref_ptr c.args.newer.ref_ptr no) (omega arith);
     }
