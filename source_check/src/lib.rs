@@ -115,6 +115,8 @@ enum Type {
     WrittenPlace,
     /// An array: what it holds, and how many of them.
     Array(Box<Type>, String),
+    /// A reference to an array, as to a constant one.
+    Lent(Box<Type>),
     /// A declared type.
     Named(String),
     Other(String),
@@ -205,15 +207,27 @@ pub fn printed(root: &Path, name: &str) -> Printed {
 
     let proofs = folder.path().join(format!("Rattle-{name}-proofs"));
     let texts = names.into_iter().map(|full| {
-        let path = format!("{}/Code/Mir.antt", within(&full).replace("::", "/"));
-        let text = fs::read_to_string(proofs.join(path));
-        let text = text.unwrap_or_else(|error| panic!("no MIR of {full}: {error}"));
+        let path = proofs.join(within(&full).replace("::", "/"));
+        let text = find_printed(&path).unwrap_or_else(|| panic!("no MIR of {full}: {said}"));
         (full, text)
     });
     Printed {
         functions: texts.collect(),
         exports: source.exports,
     }
+}
+
+/// The MIR of a function, which has a folder, or stands in one for the
+/// functions that call one another.
+fn find_printed(function: &Path) -> Option<String> {
+    if let Ok(text) = fs::read_to_string(function.join("Code/Mir.antt")) {
+        return Some(text);
+    }
+    let file = format!("Code/+{}.antt", function.file_name()?.to_str()?);
+    let folders = fs::read_dir(function.parent()?).ok()?;
+    let rings = folders.filter_map(|entry| Some(entry.ok()?.path()));
+    let mut rings = rings.filter(|path| path.to_string_lossy().contains("/+"));
+    rings.find_map(|ring| fs::read_to_string(ring.join(&file)).ok())
 }
 
 /// The MIR of all the crates, as it is printed, side by side.
@@ -454,7 +468,7 @@ impl Program {
                         && compiled.get(name) == Some(&source::plain_types(held))
                 })
             }
-            Type::Array(..) | Type::Other(_) => false,
+            Type::Array(..) | Type::Lent(_) | Type::Other(_) => false,
         }
     }
 
@@ -495,7 +509,7 @@ impl Type {
         match (self, compiled) {
             (Type::Named(name), Type::Named(full)) => last(name) == last(full),
             // Neither is allowed, and that is reported by itself.
-            (Type::Other(_), Type::Other(_) | Type::Array(..)) => true,
+            (Type::Other(_), Type::Other(_) | Type::Lent(_) | Type::Array(..)) => true,
             _ => self == compiled,
         }
     }
@@ -512,6 +526,7 @@ impl fmt::Display for Type {
             Type::Place => write!(f, "a pointer to a byte"),
             Type::WrittenPlace => write!(f, "a pointer to bytes to be written"),
             Type::Array(ty, count) => write!(f, "an array of {count}, each {ty}"),
+            Type::Lent(ty) => write!(f, "a reference to {ty}"),
             Type::Named(name) => write!(f, "{name}"),
             Type::Other(text) => write!(f, "of another type: {text}"),
         }

@@ -95,14 +95,19 @@ impl Module {
         module
     }
 
-    /// `Rattle.crate.proofs.module.function.Symbol` has the function's name.
+    /// `Rattle.crate.proofs.module.function.Symbol` has the function's name; so
+    /// has `Rattle.crate.specs.contracts.module.function.Key`, where the functions
+    /// call one another.
     fn import(&mut self, path: &str, word: &str, exports: &BTreeMap<String, String>) {
-        let inner = path.strip_prefix("Rattle.");
-        let inner = inner.and_then(|path| path.strip_suffix(".Symbol"));
-        if let Some((crate_name, function)) = inner.and_then(|path| path.split_once(".proofs.")) {
-            let name = format!("{crate_name}::{}", function.replace('.', "::"));
-            let name = exports.get(&name).cloned().unwrap_or(name);
-            self.imports.insert(format!("{word}.name"), name);
+        let ends = [(".proofs.", ".Symbol"), (".specs.contracts.", ".Key")];
+        for (middle, end) in ends {
+            let inner = path.strip_prefix("Rattle.");
+            let inner = inner.and_then(|path| path.strip_suffix(end));
+            if let Some((crates, function)) = inner.and_then(|path| path.split_once(middle)) {
+                let name = format!("{}::{}", last(crates), function.replace('.', "::"));
+                let name = exports.get(&name).cloned().unwrap_or(name);
+                self.imports.insert(format!("{word}.name"), name);
+            }
         }
     }
 
@@ -150,6 +155,7 @@ fn type_of(tree: &Tree) -> Type {
             "mut" => Type::WrittenPlace,
             _ => Type::Place,
         },
+        "ty_ref" if last(parts[3].head()) == "ty_array" => Type::Lent(Box::new(type_of(&parts[3]))),
         "ty_struct" => slice(&parts[1], &parts[2]).unwrap_or(Type::Other(tree.text())),
         _ => Type::Other(tree.text()),
     }

@@ -129,7 +129,8 @@ fn change(edit: &Edit, folder: &Path) {
     }
 }
 
-/// Copies the crates and makes the edit there.
+/// Copies the crates and makes the edit there. The proofs of the functions that
+/// may have changed are left out: the kit would hold them to the edited code.
 fn copy(edit: &Edit, to: &Path) {
     let crates = root().join("crates");
     for entry in fs::read_dir(&crates).expect("there are crates") {
@@ -145,7 +146,14 @@ fn copy(edit: &Edit, to: &Path) {
         }
     }
     fs::copy(root().join("crates.txt"), to.join("crates.txt")).expect("a file can be copied");
-    change(edit, &to.join("crates").join(&edit.crate_name));
+    let edited = to.join("crates").join(&edit.crate_name);
+    for entry in fs::read_dir(edited.join("proofs")).expect("there are proofs") {
+        let path = entry.expect("there are proofs").path();
+        if path.is_dir() {
+            fs::remove_dir_all(path).expect("a copy can be removed");
+        }
+    }
+    change(edit, &edited);
 }
 
 fn reports(program: &Program) -> Vec<String> {
@@ -201,11 +209,16 @@ fn no_fault_as_it_stands() {
 
 #[test]
 fn each_edit_is_answered() {
+    let mut wrong = Vec::new();
     for label in REPORTED.iter().chain(&ALLOWED) {
         let edit = edit(label);
         assert_eq!(edit.reports.is_empty(), ALLOWED.contains(label), "{label}");
-        assert_eq!(answers()[label].of_copy, edit.reports, "{label}");
+        let found = &answers()[label].of_copy;
+        if *found != edit.reports {
+            wrong.push((label, found));
+        }
     }
+    assert!(wrong.is_empty(), "not as the edits name it: {wrong:#?}");
     let files = fs::read_dir(package().join("edits")).expect("there are edits");
     assert_eq!(files.count(), REPORTED.len() + ALLOWED.len());
 }
