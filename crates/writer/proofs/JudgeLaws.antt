@@ -1,10 +1,11 @@
 -- Judging a list: one section, by the tests that lead there; and section by section, what is known before each turn, where it stops, and what it has come to at its end.
-use Prim.Native.Nat.{ℕ, ◌+◌, ◌≤◌, ◌<◌}
+use Prim.Native.Nat.{ℕ, ◌+◌, ◌≤◌, ◌<◌, zero-le}
 use mathlib.Core.Path.{◌≡◌, refl, sym, ap, ◌∙◌}
 use mathlib.Core.Bool.{true, false}
 use mathlib.Core.List.{List, [], ◌∷◌}
 use native.Mathlib.Numerals.{add-one}
 use native.Mathlib.Nat.{add_assoc}
+use native.Mathlib.Omega.{arith}
 use borrow.Author.Tests.{eqb-true, eq-eqb, ne_eqb, lt-ltb, le-ltb}
 use lib.Dec.{eqb}
 use lib.ListN.{length, drop, get_or, drop_of_length-le}
@@ -44,6 +45,7 @@ module _ (x : Section) (i n bytes e : ℕ) (is : e ≡ fault_of x n) where
 
 -- before the turn of an index, with s judged so far: no fault, and the rest of the list comes to what the whole list comes to
 pub record JudgeAt (xs : List Section) (n index : ℕ) (s : Judged) : Type 0 where
+  pub within : index ≤ length xs
   pub clean : s ≡ counted s.length
   pub same : judge_from (drop index xs) index n s.length ≡ judge_from xs 0 n 8
 
@@ -54,7 +56,7 @@ one_number x i n bytes = if_cases (λ (j : Judged). j.number ≡ fault_of x n) (
 
 module _ (xs : List Section) (n : ℕ) where
   pub judge_starts : JudgeAt xs n 0 (counted 8)
-  judge_starts = record { clean = refl; same = refl }
+  judge_starts = record { within = zero-le; clean = refl; same = refl }
 
   module _ (i : ℕ) (s : Judged) (p : JudgeAt xs n i s) where
     abbrev x : Section
@@ -75,6 +77,7 @@ module _ (xs : List Section) (n : ℕ) where
           let t : eqb (fault_of x n) 0 ≡ true = eq-eqb _ _ (sym number_is ∙ z) in
           let g : r ≡ counted (longer s.length x.size) = simp t at e in
           record {
+            within = omega arith;
             clean = rw g refl;
             same = rw (add-one, g) (rw add-one at (simp t at (rw (cut h) at p.same)));
           }

@@ -6,3 +6,5 @@ pub mod PutLaws
 pub mod AnswerLaws
 pub mod WriteLaws
 pub mod TripLaws
+pub mod Again
+pub mod Walk

@@ -16,6 +16,7 @@ use Rattle.writer.proofs.SectionLaws.{next_sect}
 
 -- before the section of an index, at an offset: the others have no fault and fit, and with them the output is what it is to be
 pub record PutAt (o : ByteOrder) (xs : List Section) (d out₀ : List ℕ) (index at : ℕ) (out : List ℕ) : Type 0 where
+  pub same : length out ≡ length out₀
   pub faultless : Faultless (length d) (drop index xs)
   pub room : at + length (chunks o (sects_of (drop index xs) d)) ≤ length out
   pub ends : at + length (chunks o (sects_of (drop index xs) d)) ≡ 4 + length (chunks o (sects_of xs d))
@@ -23,7 +24,7 @@ pub record PutAt (o : ByteOrder) (xs : List Section) (d out₀ : List ℕ) (inde
 
 module _ (o : ByteOrder) (xs : List Section) (d out₀ : List ℕ) where
   pub put_starts : Faultless (length d) xs × (4 + length (chunks o (sects_of xs d)) ≤ length out₀) → PutAt o xs d out₀ 0 4 out₀
-  put_starts f = record { faultless = f.0; room = f.1; ends = refl; outs = refl }
+  put_starts f = record { same = refl; faultless = f.0; room = f.1; ends = refl; outs = refl }
 
   module _ (i at : ℕ) (out : List ℕ) (p : PutAt o xs d out₀ i at out) where
     abbrev x : Section
@@ -31,6 +32,10 @@ module _ (o : ByteOrder) (xs : List Section) (d out₀ : List ℕ) where
 
     abbrev rest : List ℕ
     rest = chunks o (sects_of (drop (i + 1) xs) d)
+
+    -- the offset is within the output
+    pub put_within : at ≤ length out
+    put_within = omega (arith, p.room)
 
     module _ (h : i < length xs) where
       -- what is left begins with the section of the index
@@ -60,6 +65,7 @@ module _ (o : ByteOrder) (xs : List Section) (d out₀ : List ℕ) where
       -- a section more
       pub put_turns : (at' : ℕ) (out' : List ℕ) → length out' ≡ length out → (at' ≡ next_of at x.size) × (out' ≡ over out at (chunk o (sect_of d x))) → PutAt o xs d out₀ (i + 1) at' out'
       put_turns at' out' l e = record {
+        same = l ∙ p.same;
         faultless = cut_faultless.1;
         room = omega (arith, p.room, cut_length, e.0);
         ends = omega (arith, p.ends, cut_length, e.0);

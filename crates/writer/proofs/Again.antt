@@ -1,0 +1,72 @@
+-- A slice that is lent by `&mut` for the length of a call and comes back: what the kit's `Denote/Lend.antt` has of one value, here of a slice. The walks of this crate, and of crates that call it, use it.
+--     LentAgain        what the holder keeps meanwhile, the slice being lent under the name γ₁: the lender's part for the call's lifetime κ', and its own borrow for κ, open
+--     lends_again      who holds the slice for κ, with a share of κ's token, can lend it for κ'
+--     comes_back       once κ' is over the holder has it back, with the list that the borrower left, which is as long as before
+--     lend, unlend     the two as steps of a walk, for a lifetime that is made for the call
+use mathlib.Core.Path.{◌≡◌, refl, sym, ap, subst}
+use Prim.Native.Nat.{ℕ}
+use mathlib.Core.List.{List, [], ◌∷◌}
+use lib.ListN.{length}
+use seplogic.Ra.Ura.{Ura}
+use base.Fraction.{full_share}
+use mir.Syntax.{Lifetime}
+use mir.Val.{Val}
+use base.Logic.{ent, sep, ex}
+use base.Fml.{Lft, GName, Share, Fml, fsep, flft, fdead, fobs, fauth, flent, fobor}
+use types.Logic.{Logic, sem}
+use types.Kit.{Goal, Soaks, Item, Seq, Step, ‵, ◌⊛◌, some, later, ◌$◌, ◌∵◌, !, qed, step, move, use1, use2, use3, drop, split, pick, rewrite, fsplit, fjoin, frame, await, updating, now as at_once, show, done}
+use types.Tokens.{lft_new, lft_end}
+use types.SemTy.{cells, Arr}
+use denote.RattleType.{RattleType}
+use denote.Shadow.{pure_l, pure_i}
+use denote.Memory.{mem}
+use denote.Ref.{MutBor}
+use denote.Slice.{slice_val, MutSlice, heres, Room, finally, mut_slice_at, coded_holeys}
+use denote.Lend.{Held, lends_slice, slice_back}
+use denote.Index.{row, whole_out, whole_in, opens_slice, closes_slice}
+
+module _ (R : RattleType) (κ κ' : Lft) (q : Share) (γ : GName) (b o : ℕ) where
+  abbrev at_list : GName → List R.Denot → MutBor (List R.Denot)
+  at_list δ ys = record { ref_ptr = (b, o); ghost_name = δ; now = ys }
+
+  abbrev pub LentAgain : GName → List R.Denot → Fml
+  LentAgain γ₁ ys = fsep (flent κ' (Held R (length ys) b o γ₁)) (fsep (fobor κ q (Held R (length ys) b o γ)) (fsep (fobs γ ((coded_holeys R).code (heres R ys))) (fauth γ ((coded_holeys R).code (heres R ys)))))
+
+  module _ {M : Type 1} {𝓤 : Ura M} (𝓛 : Logic 𝓤) (ℓ ℓ' : Lifetime) (ys : List R.Denot) where
+    open 𝓛 use {H, A}
+
+    abbrev vals : List Val
+    vals = slice_val (b, o) (length ys) ∷ []
+
+    pub lends_again : ent 𝓤 (sep 𝓤 (sem 𝓛 ((MutSlice ℓ κ R).own_val (at_list γ ys) vals)) (A.lft κ q))
+        (H.⇛ (ex 𝓤 (λ (γ₁ : GName). sep 𝓤 (sem 𝓛 ((MutSlice ℓ' κ' R).own_val (at_list γ₁ ys) vals)) (sem 𝓛 (LentAgain γ₁ ys)))))
+    lends_again =
+        qed 𝓛 (‵ ((MutSlice ℓ κ R).own_val (at_list γ ys) vals) ∷ ‵ (flft κ q) ∷ []) ∵ updating ! $ fsplit ! $ pure_l ! (mut_slice_at R (at_list γ ys) vals) (λ p. fsplit ! $ opens_slice ! tt R ys b o $
+        use1 𝓛 (‵ (cells (mem R) ys b o)) (whole_in 𝓛 R ys b o) $
+        use1 𝓛 (later (some (λ (γ₁ : GName). ‵ ((MutSlice ℓ' κ' R).own_val (at_list γ₁ ys) vals) ⊛ ‵ (flent κ' (Held R (length ys) b o γ₁))))) (lends_slice 𝓛 R ℓ' κ' ys b o p.1) $ await ! tt $ pick ! (λ γ₁. split ! $
+        -- [the new slice; the lender's part at κ'; the open borrow at κ; obs γ; auth γ]
+        at_once ! $ show ! (λ (γ' : GName). sep 𝓤 (sem 𝓛 ((MutSlice ℓ' κ' R).own_val (at_list γ' ys) vals)) (sem 𝓛 (LentAgain γ' ys))) γ₁ $ frame ! $
+        move ! (2 ∷ 3 ∷ []) $ fjoin ! $ move ! (2 ∷ 0 ∷ []) $ fjoin ! $ move ! (1 ∷ 0 ∷ []) $ fjoin ! $ done !))
+
+    pub comes_back : (γ₁ : GName) (zs : List R.Denot) → Room R (length ys) → length zs ≡ length ys
+        → ent 𝓤 (sep 𝓤 (A.dead κ') (sep 𝓤 (sem 𝓛 (LentAgain γ₁ ys)) (sem 𝓛 (finally R γ₁ zs)))) (H.⇛ (sep 𝓤 (sem 𝓛 ((MutSlice ℓ κ R).own_val (at_list γ zs) vals)) (A.lft κ q)))
+    comes_back γ₁ zs room e =
+        qed 𝓛 (‵ (fdead κ') ∷ ‵ (LentAgain γ₁ ys) ∷ ‵ (finally R γ₁ zs) ∷ []) ∵ updating ! $ move ! (1 ∷ []) $ fsplit ! $ move ! (2 ∷ 0 ∷ 3 ∷ []) $
+        use3 𝓛 (later (‵ ((Arr (mem R) (length ys)).own_at zs b o))) (slice_back 𝓛 R κ' γ₁ zs (length ys) b o) $ await ! tt $ fsplit ! $ drop ! $ use1 𝓛 (‵ (row R full_share zs b o)) (whole_out 𝓛 R zs b o) $
+        move ! (1 ∷ []) $ fsplit ! $ move ! (1 ∷ []) $ fsplit ! $ move ! (3 ∷ 2 ∷ 0 ∷ 1 ∷ []) $ closes_slice ! tt R ys zs e b o $ at_once ! $
+        fjoin ! $ pure_i ! (mut_slice_at R (at_list γ zs) vals) (tt, (tt, tt)) (ap (λ (m : ℕ). slice_val (b, o) m ∷ []) (sym e), subst (Room R) (sym e) room) $ fjoin ! $ done !
+
+-- The steps: the slice is lent for the lifetime ν of the call, under the name δ, and comes back at the list zs.
+module _ {M : Type 1} {𝓤 : Ura M} {𝓛 : Logic 𝓤} {K : Type 0} {Γ : List (Item 𝓤)} {G : Goal 𝓤 𝓛.H} where
+  pub lend : K → Soaks G → (R : RattleType) (κ : Lft) (q : Share) (γ : GName) (b o : ℕ) (ℓ ℓ' : Lifetime) (ys : List R.Denot)
+      → ((ν : ℕ) (δ : GName) → Seq K 𝓛 (‵ ((MutSlice ℓ' (ν ∷ []) R).own_val (record { ref_ptr = (b, o); ghost_name = δ; now = ys }) (slice_val (b, o) (length ys) ∷ [])) ∷ ‵ (flft (ν ∷ []) full_share) ∷ ‵ (LentAgain R κ (ν ∷ []) q γ b o δ ys) ∷ Γ) G)
+      → Seq K 𝓛 (‵ ((MutSlice ℓ κ R).own_val (record { ref_ptr = (b, o); ghost_name = γ; now = ys }) (slice_val (b, o) (length ys) ∷ [])) ∷ ‵ (flft κ q) ∷ Γ) G
+  lend t z R κ q γ b o ℓ ℓ' ys k = lft_new t z (λ ν. move t (1 ∷ 2 ∷ []) $
+      use2 𝓛 (later (some (λ (δ : GName). ‵ ((MutSlice ℓ' (ν ∷ []) R).own_val (record { ref_ptr = (b, o); ghost_name = δ; now = ys }) (slice_val (b, o) (length ys) ∷ [])) ⊛ ‵ (LentAgain R κ (ν ∷ []) q γ b o δ ys))))
+      (lends_again R κ (ν ∷ []) q γ b o 𝓛 ℓ ℓ' ys) $ await t z $ pick t (λ δ. split t $ move t (0 ∷ 2 ∷ []) $ k ν δ))
+
+  pub unlend : K → Soaks G → (R : RattleType) (κ : Lft) (q : Share) (γ : GName) (b o : ℕ) (ℓ ℓ' : Lifetime) (ys zs : List R.Denot) {ν : ℕ} {δ : GName} → Room R (length ys) → length zs ≡ length ys
+      → Step K 𝓛 (‵ ((MutSlice ℓ κ R).own_val (record { ref_ptr = (b, o); ghost_name = γ; now = zs }) (slice_val (b, o) (length zs) ∷ [])) ∷ ‵ (flft κ q) ∷ Γ) G (‵ (flft (ν ∷ []) full_share) ∷ ‵ (LentAgain R κ (ν ∷ []) q γ b o δ ys) ∷ ‵ (finally R δ zs) ∷ Γ) G
+  unlend t z R κ q γ b o ℓ ℓ' ys zs {ν} {δ} room e = step (λ s. lft_end t z $
+      use3 𝓛 (later (‵ ((MutSlice ℓ κ R).own_val (record { ref_ptr = (b, o); ghost_name = γ; now = zs }) (slice_val (b, o) (length ys) ∷ [])) ⊛ ‵ (flft κ q))) (comes_back R κ (ν ∷ []) q γ b o 𝓛 ℓ ℓ' ys δ zs room e) $ await t z $ split t $
+      rewrite t 0 (λ (m : ℕ). ‵ ((MutSlice ℓ κ R).own_val (record { ref_ptr = (b, o); ghost_name = γ; now = zs }) (slice_val (b, o) m ∷ []))) (sym e) refl $ s)
