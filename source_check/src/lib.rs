@@ -5,7 +5,8 @@
 //! The check reads the source of the proved crates, and the MIR that
 //! `rt check --generated` prints of it, which has the types of locals that the
 //! source leaves out. Where the two readings of a function or of a declared type
-//! differ it fails.
+//! differ it fails. The functions of the library that may be called are listed,
+//! and not read.
 
 mod mir;
 mod source;
@@ -35,11 +36,14 @@ pub const TESTS: [&str; 4] = [
 pub const CALLS: [&str; 2] = ["loader::judge", "loader::load"];
 
 /// The declared types that a test of addresses, and what it calls, may hold by
-/// value, each with what it holds: numbers, and no map record, which is a
-/// mark, a kind, a first address and a length.
+/// value, each with what it holds: numbers or one of a few cases, and no map
+/// record, which is a mark, a kind, a first address and a length.
 pub const TEST_TYPES: [(&str, &str); 2] = [
-    // The index of a record, or nothing.
-    ("region_map::addresses::Found", "Nothing, Index(usize)"),
+    // One of the kinds that a record can have.
+    (
+        "region_map::records::Kind",
+        "Permitted = 1, Reserved = 2, OneWrite = 3",
+    ),
     // An open stretch of addresses, and how far after it none is reserved.
     (
         "loader::judging::Stretch",
@@ -48,52 +52,77 @@ pub const TEST_TYPES: [(&str, &str); 2] = [
 ];
 
 /// Those that the rest of judging and loading may hold besides.
-pub const CALL_TYPES: [(&str, &str); 11] = [
+pub const CALL_TYPES: [(&str, &str); 10] = [
     // The byte order of a table's header words.
     ("words::ByteOrder", "HighFirst, LowFirst"),
+    // Why a call refuses.
+    (
+        "words::refusal::Refusal",
+        "MapLength, MapRecord { place: usize }, MemoryLength, TableLong, TableCut { place: usize }, BytesAfter { place: usize }, PastTop { place: usize }, NotOpen { place: usize, address: u32 }, ResultLong, OutputShort, RegistersUnfit, ConfigLong, ConfigCut { place: usize }, ConfigAfter { place: usize }, NoRegister { place: usize }, Branch { place: usize }, StrapLong, StrapReserved, PastData { place: usize }, SizeZero { place: usize }, StoredTwice { place: usize }",
+    ),
     // Where the addresses of the permitted records so far begin and end.
     ("region_map::records::Span", "low: u64, high: u64"),
-    // What is wrong with a map, and the answer that is given for it.
-    (
-        "region_map::records::MapFault",
-        "Sound, Length, Record(usize)",
-    ),
-    (
-        "region_map::MapAnswer",
-        "number: u32, place: usize, bytes: usize",
-    ),
-    // What stands at an offset of a table, the form of a table, and where a
-    // walk stands.
-    (
-        "boot_table::Step",
-        "Section { address: u32, size: usize, start: usize, next: usize }, End, Fault { number: u32, place: usize }",
-    ),
-    (
-        "boot_table::Form",
-        "number: u32, place: usize, sections: usize, bytes: usize",
-    ),
-    (
-        "loader::judging::Walk",
-        "offset: usize, sections: usize, bytes: usize",
-    ),
-    // The offset of a section that stores an address of kind 3 again, and the
-    // sections before one: how many, and the span of their addresses.
-    ("one_write::Repeat", "Nowhere, At(usize)"),
-    (
-        "one_write::Earlier",
-        "sections: usize, low: u64, high: u64",
-    ),
-    // The answer of judging and loading.
-    (
-        "loader::Answer",
-        "number: u32, place: usize, address: u32, entry: u32, entry_open: bool, sections: usize, bytes: usize",
-    ),
     // The addresses of a permitted record, and the place in memory of the
     // first. Storing holds it, for an address that is known to be open.
     (
         "region_map::places::Region",
         "first: u64, end: u64, place: usize",
     ),
+    // A section of a table, how many sections and data bytes a table has, and
+    // where a walk stands.
+    (
+        "boot_table::Section",
+        "address: u32, size: usize, start: usize, next: usize",
+    ),
+    ("boot_table::Counts", "sections: usize, bytes: usize"),
+    (
+        "loader::judging::Walk",
+        "offset: usize, sections: usize, bytes: usize",
+    ),
+    // The addresses of a section, and the sections before one: how many, and
+    // where their addresses begin and end.
+    ("one_write::Span", "first: u64, end: u64"),
+    (
+        "one_write::Earlier",
+        "sections: usize, low: u64, high: u64",
+    ),
+    // The answer of judging and loading for an accepted table.
+    (
+        "loader::Summary",
+        "entry: u32, entry_open: bool, sections: usize, bytes: usize",
+    ),
+];
+
+/// The types of the library that a test of addresses, and what it calls, may
+/// hold, over types that it may hold: a value or none.
+pub const TEST_LIBRARY_TYPES: [&str; 1] = ["core::option::Option"];
+
+/// Those that the rest of judging and loading may hold besides: a value or a
+/// refusal, and the two that `?` makes of it.
+pub const CALL_LIBRARY_TYPES: [&str; 3] = [
+    "core::result::Result",
+    "core::result::ErrResidual",
+    "core::ops::ControlFlow",
+];
+
+/// The functions of the library that a test of addresses, and what it calls,
+/// may call, each with what is written for it: the lower and the higher of two
+/// numbers.
+pub const TEST_LIBRARY_FUNCTIONS: [(&str, &str); 2] = [
+    ("core::int::u64::min", ".min"),
+    ("core::int::u64::max", ".max"),
+];
+
+/// Those that the rest of judging and loading may call besides: the two that
+/// `?` stands for, and the conversion that it is given to call, which leaves a
+/// refusal as it is.
+pub const CALL_LIBRARY_FUNCTIONS: [(&str, &str); 3] = [
+    ("std::prelude::ResultTry::branch", "?"),
+    (
+        "std::prelude::ResultFromResidualErrResidual::from_residual",
+        "?",
+    ),
+    ("core::convert::AnyFrom::from", "?"),
 ];
 
 /// A type, as far as the check tells types apart.
@@ -119,6 +148,10 @@ enum Type {
     Lent(Box<Type>),
     /// A declared type.
     Named(String),
+    /// A type over others, as the library has them.
+    Over(String, Vec<Type>),
+    /// One of the types that such a type is over, as its declaration has it.
+    Parameter,
     Other(String),
 }
 
@@ -304,8 +337,8 @@ impl Program {
 impl Program {
     pub fn check(&self) -> Result<Shown, Vec<Fault>> {
         let mut faults = Faults::default();
-        let tests = self.reach(&TESTS, &mut faults);
-        let calls = self.reach(&CALLS, &mut faults);
+        let tests = self.reach(&TESTS, true, &mut faults);
+        let calls = self.reach(&CALLS, false, &mut faults);
         for name in tests.union(&calls) {
             self.check_readings(name, &mut faults);
             self.check_types(name, tests.contains(name), &mut faults);
@@ -332,7 +365,7 @@ impl Program {
     // ---- calls
 
     /// Some functions and all that they call, in other crates too.
-    fn reach(&self, from: &[&str], faults: &mut Faults) -> BTreeSet<String> {
+    fn reach(&self, from: &[&str], in_test: bool, faults: &mut Faults) -> BTreeSet<String> {
         let mut reached = BTreeSet::new();
         let (mut waiting, missing): (Vec<&str>, Vec<&str>) =
             from.iter().partition(|name| self.knows(name));
@@ -341,7 +374,7 @@ impl Program {
         }
         while let Some(name) = waiting.pop() {
             if reached.insert(name.to_string()) {
-                for callee in self.unresolved(name) {
+                for callee in self.unresolved(name, in_test) {
                     faults.report(name, &format!("the call of {callee} is not resolved"));
                 }
                 waiting.extend(self.callees(name));
@@ -360,16 +393,23 @@ impl Program {
         calls.filter(|callee| self.knows(callee)).collect()
     }
 
-    /// The calls of functions that are not known, and those that only one
-    /// reading has.
-    fn unresolved(&self, name: &str) -> BTreeSet<String> {
+    /// The calls of functions that are neither known nor listed, and those that
+    /// only one reading has.
+    fn unresolved(&self, name: &str, in_test: bool) -> BTreeSet<String> {
         let written = &self.source.functions[name].calls;
-        let compiled = &self.mir[name].calls;
-        let names: BTreeSet<&str> = compiled.iter().map(|callee| last(callee)).collect();
-        let resolved = |callee: &str| self.knows(callee) && written.contains(last(callee));
-        let not_resolved = compiled.iter().filter(|callee| !resolved(callee));
-        let only_written = written.iter().filter(|name| !names.contains(name.as_str()));
-        not_resolved.chain(only_written).cloned().collect()
+        let mut words = BTreeSet::new();
+        let mut unresolved = BTreeSet::new();
+        for callee in &self.mir[name].calls {
+            let listed = written_for(callee, in_test);
+            let word = listed.unwrap_or(last(callee));
+            words.insert(word);
+            if !written.contains(word) || listed.is_none() && !self.knows(callee) {
+                unresolved.insert(callee.clone());
+            }
+        }
+        let only_written = written.iter().filter(|word| !words.contains(word.as_str()));
+        unresolved.extend(only_written.cloned());
+        unresolved
     }
 
     /// No function reaches itself.
@@ -453,22 +493,29 @@ impl Program {
     }
 
     /// Whether a type is allowed. A declared one is listed, and holds what the
-    /// list says, in the source and in the MIR.
+    /// list says, in the source and in the MIR. One of the library is listed, and
+    /// holds nothing but the types that it is over, which are allowed.
     fn allows(&self, ty: &Type, in_test: bool, compiled: &BTreeMap<String, Vec<Type>>) -> bool {
         match ty {
             Type::Number(_) | Type::Bool | Type::Slice | Type::Place => true,
             Type::WrittenSlice | Type::WrittenPlace | Type::Unit => !in_test,
             Type::Named(name) => {
                 let written = self.source.types.get(name).map(String::as_str);
-                let besides = if in_test { &[] } else { &CALL_TYPES[..] };
-                let mut listed = TEST_TYPES.iter().chain(besides);
+                let mut listed = listed(in_test, &TEST_TYPES, &CALL_TYPES);
                 listed.any(|(listed_name, held)| {
                     listed_name == name
                         && written == Some(*held)
                         && compiled.get(name) == Some(&source::plain_types(held))
                 })
             }
-            Type::Array(..) | Type::Lent(_) | Type::Other(_) => false,
+            Type::Over(name, types) => {
+                let mut listed = listed(in_test, &TEST_LIBRARY_TYPES, &CALL_LIBRARY_TYPES);
+                let held = compiled.get(name);
+                listed.any(|listed_name| listed_name == name)
+                    && held.is_some_and(|held| held.iter().all(|ty| *ty == Type::Parameter))
+                    && types.iter().all(|ty| self.allows(ty, in_test, compiled))
+            }
+            Type::Array(..) | Type::Lent(_) | Type::Parameter | Type::Other(_) => false,
         }
     }
 
@@ -497,6 +544,22 @@ impl Faults {
     }
 }
 
+/// What is listed for the tests, and for the rest of judging and loading besides.
+fn listed<T>(
+    in_test: bool,
+    tests: &'static [T],
+    besides: &'static [T],
+) -> impl Iterator<Item = &'static T> {
+    tests.iter().chain(if in_test { &[] } else { besides })
+}
+
+/// What is written for a call of a function of the library, if that is listed.
+fn written_for(callee: &str, in_test: bool) -> Option<&'static str> {
+    let mut listed = listed(in_test, &TEST_LIBRARY_FUNCTIONS, &CALL_LIBRARY_FUNCTIONS);
+    let found = listed.find(|(name, _)| *name == callee);
+    found.map(|(_, word)| *word)
+}
+
 /// A name without its path.
 fn last(name: &str) -> &str {
     name.rsplit("::").next().unwrap_or(name)
@@ -508,6 +571,14 @@ impl Type {
     fn same_as(&self, compiled: &Type) -> bool {
         match (self, compiled) {
             (Type::Named(name), Type::Named(full)) => last(name) == last(full),
+            (Type::Over(name, types), Type::Over(full, others)) => {
+                last(name) == last(full)
+                    && types.len() == others.len()
+                    && types
+                        .iter()
+                        .zip(others)
+                        .all(|(ty, other)| ty.same_as(other))
+            }
             // Neither is allowed, and that is reported by itself.
             (Type::Other(_), Type::Other(_) | Type::Lent(_) | Type::Array(..)) => true,
             _ => self == compiled,
@@ -528,6 +599,11 @@ impl fmt::Display for Type {
             Type::Array(ty, count) => write!(f, "an array of {count}, each {ty}"),
             Type::Lent(ty) => write!(f, "a reference to {ty}"),
             Type::Named(name) => write!(f, "{name}"),
+            Type::Over(name, types) => {
+                let types: Vec<String> = types.iter().map(Type::to_string).collect();
+                write!(f, "{name} over {}", types.join(" and "))
+            }
+            Type::Parameter => write!(f, "of a type that is left open"),
             Type::Other(text) => write!(f, "of another type: {text}"),
         }
     }

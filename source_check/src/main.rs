@@ -1,7 +1,10 @@
 //! Runs the check over the repository that it stands in, and prints what it
 //! shows.
 
-use source_check::{all_printed, Program, Shown, CALLS, CALL_TYPES, TESTS, TEST_TYPES};
+use source_check::{
+    all_printed, Program, Shown, CALLS, CALL_LIBRARY_FUNCTIONS, CALL_LIBRARY_TYPES, CALL_TYPES,
+    TESTS, TEST_LIBRARY_FUNCTIONS, TEST_LIBRARY_TYPES, TEST_TYPES,
+};
 use std::path::Path;
 use std::process::ExitCode;
 
@@ -30,6 +33,12 @@ fn located(program: &Program, name: &str) -> String {
     }
 }
 
+/// The names of the library's functions in a list, after one another.
+fn names(listed: &[(&str, &str)]) -> String {
+    let names: Vec<&str> = listed.iter().map(|(name, _)| *name).collect();
+    names.join(", ")
+}
+
 fn print(program: &Program, shown: &Shown) {
     println!("The address test begins with");
     for name in TESTS {
@@ -46,7 +55,9 @@ fn print(program: &Program, shown: &Shown) {
     for (name, held) in TEST_TYPES {
         println!("  {name}, which holds {held}");
     }
-    println!("None of them reaches itself.");
+    println!("  {} over some of these", TEST_LIBRARY_TYPES.join(", "));
+    println!("None of them reaches itself. Of the library they call none but");
+    println!("  {}", names(&TEST_LIBRARY_FUNCTIONS));
     let more = shown.calls.difference(&shown.tests).count();
     println!(
         "The same holds of {more} more functions that {} reach, with",
@@ -58,6 +69,9 @@ fn print(program: &Program, shown: &Shown) {
     for (name, held) in CALL_TYPES {
         println!("  {name}, which holds {held}");
     }
+    println!("  {} over some of these", CALL_LIBRARY_TYPES.join(", "));
+    println!("and calls of the library's");
+    println!("  {}", names(&CALL_LIBRARY_FUNCTIONS));
     println!(
         "The longest chain of calls of the address test has {} functions: {}.",
         shown.chain.len(),

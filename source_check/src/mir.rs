@@ -120,23 +120,29 @@ impl Module {
         count.expect("a count is a number")
     }
 
-    /// A direct call gives the name of its function. Another call, and a
-    /// function whose address is taken, are kept as they are printed, which is
-    /// no function's name.
+    /// A direct call gives the name of its function, which stands before the
+    /// types that it is for, where there are any. The methods of these that the
+    /// function is given to call stand there too, and count as called. Another
+    /// call, and a function whose address is taken, are kept as they are
+    /// printed, which is no function's name.
     fn find_calls(&self, tree: &Tree, calls: &mut BTreeSet<String>) {
-        let rest = match tree.parts() {
-            [word, callee, rest @ ..] if word.is("Syntax.call") => {
-                let name = self.imports.get(&callee.text());
+        match tree.parts() {
+            [word, callee, ..] if word.is("Syntax.call") => {
+                let name = self.imports.get(callee.head());
                 calls.insert(name.cloned().unwrap_or(callee.text()));
-                rest
+            }
+            [word, methods, ..] if word.is("Syntax.impl") => {
+                let names = list(methods).into_iter().map(Tree::text);
+                calls.extend(names.map(|name| name.trim_matches('"').to_string()));
             }
             [word, ..] if ADDRESSES.contains(&word.text().as_str()) => {
                 calls.insert(tree.text());
-                &[]
+                return;
             }
-            parts => parts,
-        };
-        rest.iter().for_each(|part| self.find_calls(part, calls));
+            _ => {}
+        }
+        let parts = tree.parts().iter();
+        parts.for_each(|part| self.find_calls(part, calls));
     }
 }
 
@@ -149,7 +155,15 @@ fn type_of(tree: &Tree) -> Type {
         "ty_unit" => Type::Unit,
         "ty_int" => Type::Number(width(&parts[1])),
         "ty_array" => Type::Array(Box::new(type_of(&parts[1])), parts[2].text()),
-        "ty_named" => Type::Named(symbol(&parts[1].parts()[0])),
+        "ty_named" => {
+            let name = symbol(&parts[1].parts()[0]);
+            let types: Vec<Type> = list(&parts[2]).into_iter().map(type_of).collect();
+            match types.is_empty() {
+                true => Type::Named(name),
+                false => Type::Over(name, types),
+            }
+        }
+        "ty_param" => Type::Parameter,
         "ty_ptr" => Type::Place,
         "ty_ref" if type_of(&parts[3]) == Type::Number(8) => match last(parts[2].head()) {
             "mut" => Type::WrittenPlace,

@@ -112,7 +112,9 @@ impl Source {
         let open = next(tokens, at, &["{", "(", ";"]);
         let end = past_bracket(tokens, open);
         let name = full_name(module, tokens, at);
-        self.types.insert(name, joined(inside(tokens, open, end)));
+        let held = between_commas(inside(tokens, open, end)).into_iter();
+        let held = held.filter(|piece| !is_ghost(piece)).map(joined);
+        self.types.insert(name, held.collect::<Vec<_>>().join(", "));
         end
     }
 
@@ -148,6 +150,14 @@ fn full_name(module: &str, tokens: &[Token], at: usize) -> String {
     format!("{module}::{}", tokens[at + 1].text)
 }
 
+/// Whether a field is a ghost, `ghost name: { fact }`: it is there for proofs,
+/// and holds nothing when the program runs.
+fn is_ghost(field: &[Token]) -> bool {
+    let words = field.iter().map(|token| token.text.as_str());
+    let mut words = words.skip_while(|word| *word == "pub");
+    words.next() == Some("ghost") && words.next() != Some(":")
+}
+
 fn parameter(tokens: &[Token]) -> (String, Type) {
     let colon = next(tokens, 0, &[":"]);
     let ty = type_of(&joined(&tokens[colon + 1..]));
@@ -155,18 +165,22 @@ fn parameter(tokens: &[Token]) -> (String, Type) {
 }
 
 /// The names that stand before a parenthesis: of functions, since types and
-/// their cases are capitalized. The length of a slice is no call; another
-/// method keeps its dot, so that no function has its name.
+/// their cases are capitalized. The length of a slice and a range from its end
+/// on are no calls; another method keeps its dot, so that no function has its
+/// name. `?` stands for calls too.
 fn calls(body: &[Token]) -> BTreeSet<String> {
     const KEYWORDS: [&str; 5] = ["if", "in", "match", "return", "while"];
     let mut calls = BTreeSet::new();
     for three in body.windows(3) {
         let [before, name, after] = [&three[0].text, &three[1].text, &three[2].text];
+        if name == "?" {
+            calls.insert(name.clone());
+        }
         let lower = name.starts_with(|c: char| c.is_lowercase() || c == '_');
         if lower && after == "(" && !KEYWORDS.contains(&name.as_str()) {
             if before != "." {
                 calls.insert(name.clone());
-            } else if name != "len" {
+            } else if !["len", "rev"].contains(&name.as_str()) {
                 calls.insert(format!(".{name}"));
             }
         }
@@ -185,10 +199,31 @@ fn type_of(text: &str) -> Type {
         "bool" => Type::Bool,
         "&[u8]" => Type::Slice,
         "&mut[u8]" => Type::WrittenSlice,
-        "" => Type::Unit,
-        _ if text.starts_with(char::is_alphabetic) => Type::Named(text.to_string()),
-        _ => Type::Other(text.to_string()),
+        "" | "()" => Type::Unit,
+        _ if !text.starts_with(char::is_alphabetic) => Type::Other(text.to_string()),
+        _ if text.ends_with('>') => over(text),
+        _ => Type::Named(text.to_string()),
     }
+}
+
+/// A type over others, `name<type, type>`.
+fn over(text: &str) -> Type {
+    let (name, types) = text.split_once('<').unwrap_or((text, ">"));
+    let types = types.strip_suffix('>').unwrap_or(types);
+    let (mut depth, mut parts) = (0, vec![String::new()]);
+    for sign in types.chars().filter(|sign| *sign != ' ') {
+        match sign {
+            '<' | '(' | '[' => depth += 1,
+            '>' | ')' | ']' => depth -= 1,
+            _ => {}
+        }
+        match sign {
+            ',' if depth == 0 => parts.push(String::new()),
+            _ => parts.last_mut().expect("there is a part").push(sign),
+        }
+    }
+    let types = parts.iter().map(|part| type_of(part)).collect();
+    Type::Over(name.to_string(), types)
 }
 
 /// The numbers and bools that a declared type holds, in the order of its text.
@@ -212,6 +247,7 @@ fn joined(tokens: &[Token]) -> String {
             "," | ":" | ";" => text += &format!("{} ", token.text),
             "{" => text += " { ",
             "}" => text += " }",
+            "=" => text += " = ",
             other => text += other,
         }
     }

@@ -14,18 +14,21 @@ use std::process::Command;
 use std::sync::OnceLock;
 use std::thread;
 
-const REPORTED: [&str; 24] = [
+const REPORTED: [&str; 28] = [
     "array_local",
     "array_constant",
     "array_passed_on",
     "array_in_an_allowed_type",
     "array_in_another_crate",
     "array_in_judging",
+    "array_in_an_option",
     "record_by_value",
     "record_in_an_allowed_type",
     "record_in_another_crate",
+    "record_in_a_result",
     "type_in_a_comment",
     "type_of_judging",
+    "result_in_a_test",
     "calls_itself",
     "calls_itself_in_another_crate",
     "two_call_each_other",
@@ -36,6 +39,7 @@ const REPORTED: [&str; 24] = [
     "no_test",
     "no_judging",
     "call_of_a_method",
+    "call_of_a_conversion",
     "call_of_the_kit",
     "call_of_c",
     "call_of_no_function",
@@ -241,7 +245,7 @@ fn another_source() {
 fn another_mir() {
     let reports_of = |label: &str| &answers()[label].of_mir;
     let report =
-        "region_map::records::kind_at: the call of region_map::records::head_of is not resolved";
+        "region_map::records::is_kind: the call of region_map::records::head_of is not resolved";
     assert!(reports_of("array_passed_on").contains(&report.to_string()));
     let held = "loader::judging::Stretch, which holds from: u64, until: u64, clear: u64";
     let report = format!("loader::judging::lengthen: the result is {held}");

@@ -7,15 +7,15 @@ use native.Mathlib.Omega.{arith}
 use borrow.Author.Tests.{eq-eqb, ne_eqb, lt-ltb, le-ltb, le-leb, lt-leb, ltb-false, eqb-true, eqb-false, not-true, not-false}
 use lib.Dec.{ltb, leb, eqb}
 use lib.ListN.{length, get_or, set, length-set}
+use Rattle.std.specs.Prelude.{Result, Ok, Err, Option, Some, None}
+use Rattle.words.specs.declared.refusal.Refusal.{Refusal}
 use Rattle.words.specs.Refusal.{registers_unfit_number, config_long_number}
+use Rattle.words.proofs.RefusalLaws.{number_some}
 use Rattle.words.proofs.ChoiceLaws.{if_split, and_no}
-use Rattle.boot_config.specs.declared.Entry.{Entry}
-use Rattle.boot_config.specs.declared.Entry.TheVariants.{Change, End, Fault}
-use Rattle.boot_config.specs.declared.Outcome.{Outcome}
-use Rattle.boot_config.specs.declared.Configured.{Configured}
+use Rattle.boot_config.specs.declared.Change.{Change}
 use Rattle.boot_config.specs.Registers.{most_registers, rising, fit, Listed, masked, changed_bits}
-use Rattle.boot_config.specs.Config.{config_limit, entry_size, entry_at, Applied, on_entry, applied_from, applied, outcome}
-use Rattle.boot_config.specs.Config.{config_refused, config_answer, config_values}
+use Rattle.boot_config.specs.Config.{config_limit, entry_size, entry_at, Applied, on_entry, applied_from, applied}
+use Rattle.boot_config.specs.Config.{Tells, ConfigAnswer, config_refused, answer_of, config_answer, config_values}
 
 -- ---- fit lists
 
@@ -38,8 +38,8 @@ module _ (xs vs : List ℕ) where
 
 -- ---- the answer
 
-abbrev number_of : Configured → ℕ
-number_of r = r.number
+abbrev answer_number : ConfigAnswer → ℕ
+answer_number r = r.number
 
 module _ (t xs vs : List ℕ) where
   pub answer_unfit : fit xs vs ≡ false → config_answer t xs vs ≡ config_refused registers_unfit_number 0
@@ -67,12 +67,6 @@ module _ (t xs vs : List ℕ) where
   unfolding config_values
   config_keeps n = rw (ne_eqb (config_answer t xs vs).number 0 n)
 
-  -- what a refusal returns
-  pub refused_as : {r : Configured} {number place : ℕ} → config_answer t xs vs ≡ config_refused number place → (number ≡ 0 → ⊥)
-      → r ≡ config_refused number place
-      → (r ≡ config_answer t xs vs) × (vs ≡ config_values t xs vs)
-  refused_as e n r = (r ∙ sym e, sym (config_keeps (λ z. n (sym (ap number_of e) ∙ z))))
-
   -- an answer of 0 has those after the whole table
   pub config_done : (config_answer t xs vs).number ≡ 0 → config_values t xs vs ≡ (applied t xs vs).values
   unfolding config_values
@@ -83,39 +77,38 @@ module _ (t xs vs : List ℕ) where
   unfolding config_answer
   config_only z =
       if_split (not (fit xs vs)) _ _ (config_answer t xs vs) refl
-      (λ b e. absurd (omega (arith, ap number_of e)))
+      (λ b e. absurd (omega (arith, ap answer_number e)))
       (λ b e. if_split (ltb config_limit (length t)) _ _ _ e
-      (λ d e. absurd (omega (arith, ap number_of e)))
+      (λ d e. absurd (omega (arith, ap answer_number e)))
       (λ d e. if_split (not (eqb (applied t xs vs).number 0)) _ _ _ e
-      (λ n e. absurd (eqb-false _ _ (not-true _ n) (ap number_of e ∙ z)))
+      (λ n e. absurd (eqb-false _ _ (not-true _ n) (ap answer_number e ∙ z)))
       (λ n e. (not-false _ b, ltb-false _ _ d, eqb-true _ _ (not-false _ n)))))
 
--- ---- what is returned where applying the table had the outcome o
+-- ---- what is returned where applying the table came to the result o
 
-module _ (t xs vs : List ℕ) (f : fit xs vs ≡ true) (short : length t ≤ config_limit) {o : Outcome} (came : o ≡ outcome (applied t xs vs)) where
-  pub applied_refused : {r : Configured} → (o.number ≡ 0 → ⊥) → r ≡ config_refused o.number o.place
-      → (r ≡ config_answer t xs vs) × (vs ≡ config_values t xs vs)
-  applied_refused n r =
-      let e : o.number ≡ (applied t xs vs).number = ap (λ (w : Outcome). w.number) came in
-      let d : o.place ≡ (applied t xs vs).place = ap (λ (w : Outcome). w.place) came in
-      refused_as t xs vs (rw (e, d) (answer_fault t xs vs f short (λ z. n (e ∙ z)))) n r
+module _ (t xs vs : List ℕ) (f : fit xs vs ≡ true) (short : length t ≤ config_limit) where
+  pub applied_refused : (r : Refusal) → Tells (Err r) (applied t xs vs)
+      → (answer_of (Err r) ≡ config_answer t xs vs) × (vs ≡ config_values t xs vs)
+  applied_refused r told =
+      let n : (applied t xs vs).number ≡ 0 → ⊥ = λ z. number_some r (sym told.0 ∙ z) in
+      let e = answer_fault t xs vs f short n in
+      (rw (← told.0, ← told.1) (sym e), sym (config_keeps t xs vs (λ z. n (sym (ap answer_number e) ∙ z))))
 
-  pub applied_done : {bits : ℕ} {us : List ℕ} → o.number ≡ 0 → bits ≡ changed_bits vs (applied t xs vs).values → us ≡ (applied t xs vs).values
-      → (◌≡◌ {A = Configured} (record { number = 0; place = 0; entries = o.entries; bits = bits }) (config_answer t xs vs))
-      × (us ≡ config_values t xs vs)
-  applied_done z b u =
-      let n : (applied t xs vs).number ≡ 0 = sym (ap (λ (w : Outcome). w.number) came) ∙ z in
-      let e = answer_done t xs vs f short n in
-      (rw (b, ap (λ (w : Outcome). w.entries) came) (sym e), u ∙ sym (config_done t xs vs (ap number_of e)))
+  pub applied_done : {entries bits : ℕ} {us : List ℕ} → Tells (Ok entries) (applied t xs vs)
+      → bits ≡ changed_bits vs (applied t xs vs).values → us ≡ (applied t xs vs).values
+      → (answer_of (Ok (record { entries = entries; bits = bits })) ≡ config_answer t xs vs) × (us ≡ config_values t xs vs)
+  applied_done told b u =
+      let e = answer_done t xs vs f short told.0 in
+      (rw (b, ← told.1) (sym e), u ∙ sym (config_done t xs vs (ap answer_number e)))
 
 -- ---- a table leaves as many values as it was applied to
 
-length_entry : (next : List ℕ → Applied) (n : ℕ) (vs : List ℕ) (e : Entry) → ((us : List ℕ) → length (next us).values ≡ length us)
+length_entry : (next : List ℕ → Applied) (n : ℕ) (vs : List ℕ) (e : Result (Option Change) Refusal) → ((us : List ℕ) → length (next us).values ≡ length us)
     → length (on_entry next n vs e).values ≡ length vs
 unfolding on_entry
-length_entry next n vs (Change i put clear) same = same (set vs i (masked (get_or vs i 0) put clear)) ∙ simp length-set
-length_entry next n vs End same = refl
-length_entry next n vs (Fault number place) same = refl
+length_entry next n vs (Ok (Some c)) same = same (set vs c.register (masked (get_or vs c.register 0) c.put c.clear)) ∙ simp length-set
+length_entry next n vs (Ok None) same = refl
+length_entry next n vs (Err f) same = refl
 
 length_from : (left : ℕ) (t xs : List ℕ) (n : ℕ) (vs : List ℕ) → length (applied_from left t xs n vs).values ≡ length vs
 unfolding applied_from

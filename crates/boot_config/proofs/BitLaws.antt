@@ -1,17 +1,18 @@
 -- Laws of bits: what each bit of a new value is, and how many bits differ.
-use Prim.Native.Nat.{ℕ, zero, suc, ◌+◌, ◌-◌, ◌/◌, ◌%◌, ◌^◌, ◌≤◌, ◌<◌, min, max}
-use mathlib.Core.Path.{◌≡◌, sym, ap, ◌∙◌}
-use mathlib.Core.List.{List}
+use Prim.Native.Nat.{ℕ, zero, suc, ◌+◌, ◌-◌, ◌*◌, ◌/◌, ◌%◌, ◌^◌, ◌≤◌, ◌<◌, min, max}
+use mathlib.Core.Path.{◌≡◌, refl, sym, ap, ◌∙◌}
+use mathlib.Core.List.{List, [], ◌∷◌, map}
 use native.Mathlib.Nat.{pow-suc}
-use native.Mathlib.Numerals.{one-add, add-one}
+use native.Mathlib.Numerals.{one-add}
 use native.Mathlib.Omega.{arith}
 use lib.Bits.{bit_and, bit_or, bit_xor, and_step, or_step, and_shr, or_shr, xor_lt}
 use lib.Count.{ones, ones-le}
-use lib.ListN.{length, get_or, drop, drop_of_length-le}
+use lib.ListN.{length, get_or}
 use lib.Pow.{shr-shr}
-use lib.Seq.{drop-cons}
 use mir.Syntax.{w32}
 use mir.Val.{Fits}
+use Rattle.std.specs.List.{sum, zip}
+use Rattle.std.proofs.lemmas.List.Sums.{sum_by-cons}
 use Rattle.boot_config.specs.Registers.{masked, changed_bits}
 
 -- ---- the bits of a new value
@@ -63,16 +64,20 @@ module _ (k old put clear : ℕ) (low : k < 32) (word : clear < 2 ^ 32) where
 
 -- ---- the number of bits that differ
 
--- two words differ in at most 32 bits
-pub differ_le : {a b : ℕ} → Fits w32 a → Fits w32 b → ones (bit_xor a b) ≤ 32
-differ_le f g = ones-le 32 _ (xor_lt 32 _ _ f.fits g.fits)
-
--- the bits that differ from one register on
-pub changed_on : (old new : List ℕ) (i : ℕ) → i < length old → i < length new
-    → changed_bits (drop i old) (drop i new) ≡ ones (bit_xor (get_or old i 0) (get_or new i 0)) + changed_bits (drop (i + 1) old) (drop (i + 1) new)
+-- it is the sum of what each pair adds
+pub changed_sum : (old new : List ℕ) → sum (map (λ (p : ℕ × ℕ). ones (bit_xor p.0 p.1)) (zip old new)) ≡ changed_bits old new
 unfolding changed_bits
-changed_on old new i h g = rw (add-one, drop-cons old i 0, drop-cons new i 0)
+changed_sum [] new = refl
+changed_sum (o ∷ old) [] = refl
+changed_sum (o ∷ old) (n ∷ new) =
+    sum_by-cons (λ (x : ℕ). x) (ones (bit_xor o n)) (map (λ (p : ℕ × ℕ). ones (bit_xor p.0 p.1)) (zip old new))
+    ∙ ap (λ (s : ℕ). ones (bit_xor o n) + s) (changed_sum old new)
 
-pub changed_end : (old new : List ℕ) (i : ℕ) → length old ≤ i → changed_bits (drop i old) (drop i new) ≡ 0
+-- words differ in at most 32 bits each
+pub changed_le : (old new : List ℕ) → ((i : ℕ) → Fits w32 (get_or old i 0)) → ((i : ℕ) → Fits w32 (get_or new i 0))
+    → changed_bits old new ≤ 32 * length old
 unfolding changed_bits
-changed_end old new i h = rw (drop_of_length-le old h)
+changed_le [] new f g = omega arith
+changed_le (o ∷ old) [] f g = omega arith
+changed_le (o ∷ old) (n ∷ new) f g =
+    omega (arith, ones-le 32 _ (xor_lt 32 _ _ (f 0).fits (g 0).fits), changed_le old new (λ i. f (suc i)) (λ i. g (suc i)))

@@ -1,17 +1,18 @@
 -- Laws of register lists: addresses that rise, and the index of an address.
-use Prim.Native.Nat.{ℕ, zero, suc, ◌+◌, ◌-◌, ◌*◌, ◌/◌, ◌≤◌, ◌<◌}
-use mathlib.Core.Path.{◌≡◌, refl, ap, ◌∙◌}
-use mathlib.Core.Bool.{true, false, ◌&&◌}
+use Prim.Native.Nat.{ℕ, zero, suc, ◌+◌, ◌*◌, ◌/◌, ◌≤◌, ◌<◌}
+use mathlib.Core.Path.{◌≡◌, refl, sym, ap, ◌∙◌}
+use mathlib.Core.Bool.{Bool, true, false}
 use mathlib.Core.List.{List, [], ◌∷◌}
 use mathlib.Core.Logic.{by_cases, ⊎_elim}
 use native.Mathlib.Nat.{eq-or-lt_of_le, lt_trans}
 use native.Mathlib.Decide.{dec_le, ℕ_discrete}
+use native.Mathlib.Numerals.{add-one}
 use native.Mathlib.Omega.{arith}
-use borrow.Author.Tests.{eq-eqb, ne_eqb, ltb-true, lt-ltb, le-ltb}
+use borrow.Author.Tests.{eq-eqb, ne_eqb, ltb-true}
 use lib.Dec.{ltb, eqb}
-use lib.ListN.{length, get_or, drop, length-drop}
-use lib.Seq.{drop-cons}
-use Rattle.words.proofs.ChoiceLaws.{and_yes, if_both}
+use lib.ListN.{length, get_or}
+use Rattle.std.specs.List.{IsAllAdjacentAnswer}
+use Rattle.words.proofs.ChoiceLaws.{and_yes, and_no, if_both}
 use Rattle.boot_config.specs.Registers.{rising, index_of}
 
 -- ---- addresses that rise
@@ -33,36 +34,25 @@ rising_lt xs i (suc j) r l h =
     (λ m. lt_trans (rising_lt xs i j r m (omega arith)) s)
     (eq-or-lt_of_le {n = i} {m = j} (omega arith))
 
--- whether they rise from one on is a test of its neighbour, and then whether they rise from that on
-rising_from : (xs : List ℕ) (i : ℕ) → suc i < length xs → rising (drop i xs) ≡ (ltb (get_or xs i 0) (get_or xs (suc i) 0) && rising (drop (suc i) xs))
+-- they rise where each is below the next
+rising_all : (xs : List ℕ) → ((i d : ℕ) → suc i < length xs → true ≡ ltb (get_or xs i d) (get_or xs (suc i) d)) → rising xs ≡ true
 unfolding rising
-rising_from xs i h =
-    let g : i < length xs = omega arith in
-    rw (drop-cons xs i 0, drop-cons xs (suc i) 0)
+rising_all [] n = refl
+rising_all (x ∷ []) n = refl
+rising_all (x ∷ y ∷ xs) n = rw (← n 0 0 (omega arith)) (rising_all (y ∷ xs) (λ i d l. n (suc i) d (omega arith)))
 
-module _ (xs : List ℕ) (i : ℕ) (some : 1 ≤ i) (inside : i < length xs) where
-  rising_at : rising (drop (i - 1) xs) ≡ (ltb (get_or xs (i - 1) 0) (get_or xs i 0) && rising (drop i xs))
-  rising_at =
-      let e : suc (i - 1) ≡ i = omega arith in
-      rw e at (rising_from xs (i - 1) (omega arith))
-
-  pub rising_on : get_or xs (i - 1) 0 < get_or xs i 0 → rising (drop (i - 1) xs) ≡ rising (drop (i + 1 - 1) xs)
-  rising_on l =
-      let e : i + 1 - 1 ≡ i = omega arith in
-      rw (e, rising_at, lt-ltb (get_or xs (i - 1) 0) (get_or xs i 0) l)
-
-  pub rising_not : get_or xs i 0 ≤ get_or xs (i - 1) 0 → rising (drop (i - 1) xs) ≡ false
-  rising_not l = rw (rising_at, le-ltb (get_or xs (i - 1) 0) (get_or xs i 0) l)
-
--- fewer than two rise
-rising_few : (xs : List ℕ) → length xs ≤ 1 → rising xs ≡ true
+-- and do not where one is not
+rising_broken : (xs : List ℕ) (i : ℕ) → suc i < length xs → false ≡ ltb (get_or xs i 0) (get_or xs (suc i) 0) → rising xs ≡ false
 unfolding rising
-rising_few [] h = refl
-rising_few (x ∷ []) h = refl
-rising_few (x ∷ y ∷ xs) h = absurd (omega arith)
+rising_broken [] i h e = absurd (omega arith)
+rising_broken (x ∷ []) i h e = absurd (omega arith)
+rising_broken (x ∷ y ∷ xs) zero h e = rw (← e)
+rising_broken (x ∷ y ∷ xs) (suc i) h e = and_no (ltb x y) (rising (y ∷ xs)) (rising_broken (y ∷ xs) i (omega arith) e)
 
-pub rising_end : (xs : List ℕ) (i : ℕ) → length xs ≤ i → rising (drop (i - 1) xs) ≡ true
-rising_end xs i h = rising_few (drop (i - 1) xs) (simp length-drop (omega arith))
+-- what a test of each and the next answers
+pub rising_answer : (xs : List ℕ) (r : Bool) → IsAllAdjacentAnswer (λ x y b. b ≡ ltb x y) xs r → r ≡ rising xs
+rising_answer xs true all = sym (rising_all xs (λ i d l. rw add-one at (all i d (omega arith))))
+rising_answer xs false (i, h, e) = sym (rising_broken xs i (omega arith) (rw add-one at (e 0)))
 
 -- ---- the index of an address
 

@@ -1,11 +1,12 @@
 -- The boot configuration table: what it answers, and what it does to registers. t is a table, xs addresses, vs values.
-use Rattle.std.specs.Prelude.{ℕ, zero, suc, ◌+◌, ◌*◌, List, not, ◌&&◌, ltb, eqb, length, get_or, set}
+use Rattle.std.specs.Prelude.{ℕ, zero, suc, ◌+◌, ◌*◌, List, not, ◌&&◌, ltb, eqb, length, get_or, set, ◌≡◌}
+use Rattle.std.specs.Prelude.{Result, Ok, Err, Option, Some, None}
 use Rattle.words.specs.Choice.{if}
 use Rattle.words.specs.Word.{word_at}
-use Rattle.words.specs.Refusal.{registers_unfit_number, config_long_number, config_cut_number, config_after_number, no_register_number, branch_number}
-use Rattle.boot_config.specs.declared.Entry.{Entry}
-use Rattle.boot_config.specs.declared.Entry.TheVariants.{Change, End, Fault}
-use Rattle.boot_config.specs.declared.Outcome.{Outcome}
+use Rattle.words.specs.declared.refusal.Refusal.{Refusal}
+use Rattle.words.specs.declared.refusal.Refusal.TheVariants.{ConfigCut, ConfigAfter, NoRegister, Branch}
+use Rattle.words.specs.Refusal.{registers_unfit_number, config_long_number, config_cut_number, number_of, place_of}
+use Rattle.boot_config.specs.declared.Change.{Change}
 use Rattle.boot_config.specs.declared.Configured.{Configured}
 use Rattle.boot_config.specs.Registers.{fit, index_of, masked, changed_bits}
 
@@ -19,18 +20,18 @@ abbrev pub entry_size : ℕ
 entry_size = 12
 
 -- an entry at offset at with both masks zero: with an address a branch is asked for, and three zero words end the table
-unfoldable pub unmasked_at : List ℕ → ℕ → Entry
+unfoldable pub unmasked_at : List ℕ → ℕ → Result (Option Change) Refusal
 unmasked_at t at =
-    if (not (eqb (word_at t at) 0)) (Fault branch_number at)
-    (if (ltb (at + entry_size) (length t)) (Fault config_after_number (at + entry_size)) End)
+    if (not (eqb (word_at t at) 0)) (Err (Branch at))
+    (if (ltb (at + entry_size) (length t)) (Err (ConfigAfter (at + entry_size))) (Ok None))
 
 -- what the entry at offset at asks for: a change of the register at an index, the end, or a fault
-unfoldable pub entry_at : List ℕ → List ℕ → ℕ → Entry
+unfoldable pub entry_at : List ℕ → List ℕ → ℕ → Result (Option Change) Refusal
 entry_at t xs at =
-    if (ltb (length t) (at + entry_size)) (Fault config_cut_number at)
+    if (ltb (length t) (at + entry_size)) (Err (ConfigCut at))
     (if (eqb (word_at t (at + 4)) 0 && eqb (word_at t (at + 8)) 0) (unmasked_at t at)
-    (if (eqb (index_of xs (word_at t at)) (length xs)) (Fault no_register_number at)
-    (Change (index_of xs (word_at t at)) (word_at t (at + 4)) (word_at t (at + 8)))))
+    (if (eqb (index_of xs (word_at t at)) (length xs)) (Err (NoRegister at))
+    (Ok (Some (record { register = index_of xs (word_at t at); put = word_at t (at + 4); clear = word_at t (at + 8) })))))
 
 -- ---- a whole table
 
@@ -41,15 +42,16 @@ pub record Applied : Type 0 where
   pub entries : ℕ
   pub values : List ℕ
 
--- what is answered of it
-abbrev pub outcome : Applied → Outcome
-outcome r = record { number = r.number; place = r.place; entries = r.entries }
+-- a result says what it comes to: how many entries there are, or the first fault
+abbrev pub Tells : Result ℕ Refusal → Applied → Type 0
+Tells (Ok entries) r = (r.number ≡ 0) × (r.entries ≡ entries)
+Tells (Err f) r = (r.number ≡ number_of f) × (r.place ≡ place_of f)
 
 -- what an entry does to values after n entries, where `next` says what the later ones do
-unfoldable pub on_entry : (List ℕ → Applied) → ℕ → List ℕ → Entry → Applied
-on_entry next n vs (Change i put clear) = next (set vs i (masked (get_or vs i 0) put clear))
-on_entry next n vs End = record { number = 0; place = 0; entries = n; values = vs }
-on_entry next n vs (Fault number place) = record { number = number; place = place; entries = n; values = vs }
+unfoldable pub on_entry : (List ℕ → Applied) → ℕ → List ℕ → Result (Option Change) Refusal → Applied
+on_entry next n vs (Ok (Some c)) = next (set vs c.register (masked (get_or vs c.register 0) c.put c.clear))
+on_entry next n vs (Ok None) = record { number = 0; place = 0; entries = n; values = vs }
+on_entry next n vs (Err f) = record { number = number_of f; place = place_of f; entries = n; values = vs }
 
 -- applying the entries from the one with index n on, so many at most
 unfoldable pub applied_from : ℕ → List ℕ → List ℕ → ℕ → List ℕ → Applied
@@ -62,11 +64,23 @@ applied t xs vs = applied_from (suc (length t)) t xs 0 vs
 
 -- ---- what is answered, and what is left in the values
 
-abbrev pub config_refused : ℕ → ℕ → Configured
+-- an answer in numbers: a refusal's number and place, or the count of entries and of the bits that differ
+pub record ConfigAnswer : Type 0 where
+  pub number : ℕ
+  pub place : ℕ
+  pub entries : ℕ
+  pub bits : ℕ
+
+abbrev pub config_refused : ℕ → ℕ → ConfigAnswer
 config_refused number place = record { number = number; place = place; entries = 0; bits = 0 }
 
+-- what configuring gives, in numbers
+abbrev pub answer_of : Result Configured Refusal → ConfigAnswer
+answer_of (Ok c) = record { number = 0; place = 0; entries = c.entries; bits = c.bits }
+answer_of (Err r) = config_refused (number_of r) (place_of r)
+
 -- the register lists, the limit, and then the table's first fault; or the entries and the bits that differ after the whole table
-unfoldable pub config_answer : List ℕ → List ℕ → List ℕ → Configured
+unfoldable pub config_answer : List ℕ → List ℕ → List ℕ → ConfigAnswer
 config_answer t xs vs =
     if (not (fit xs vs)) (config_refused registers_unfit_number 0)
     (if (ltb config_limit (length t)) (config_refused config_long_number 0)

@@ -1,5 +1,5 @@
 -- Registers that are lent: addresses xs and values vs.
-use Rattle.std.specs.Prelude.{ℕ, suc, ◌+◌, ◌-◌, ◌^◌, ◌≤◌, ◌≡◌, List, [], ◌∷◌, Bool, true, ◌&&◌, ltb, leb, eqb, length}
+use Rattle.std.specs.Prelude.{ℕ, suc, ◌+◌, ◌-◌, ◌^◌, ◌≤◌, ◌≡◌, ◌<◌, List, [], ◌∷◌, Bool, true, ◌&&◌, ltb, leb, eqb, length, Option, Some, None}
 use Rattle.std.specs.Int.Bits.{bit_and, bit_or, bit_xor}
 use Rattle.std.specs.Int.Count.{ones}
 use Rattle.words.specs.Choice.{if}
@@ -27,6 +27,11 @@ pub record Listed (xs : List ℕ) : Type 0 where
 unfoldable pub index_of : List ℕ → ℕ → ℕ
 index_of [] a = 0
 index_of (x ∷ xs) a = if (eqb x a) 0 (suc (index_of xs a))
+
+-- a search for an address says its index, or that it is not there
+abbrev pub IndexOf : List ℕ → ℕ → Option ℕ → Type 0
+IndexOf xs a (Some i) = (i < length xs) × (index_of xs a ≡ i)
+IndexOf xs a None = index_of xs a ≡ length xs
 
 -- a register's new value: the old one with the clear bits removed and then the set bits put in
 unfoldable pub masked : ℕ → ℕ → ℕ → ℕ

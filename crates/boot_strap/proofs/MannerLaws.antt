@@ -3,11 +3,11 @@ use Prim.Native.Nat.{ℕ}
 use mathlib.Core.Path.{◌≡◌, refl, sym, ◌∙◌}
 use mathlib.Core.Bool.{Bool, true, false, not, ◌&&◌, ◌||◌}
 use lib.Dec.{ltb, leb, eqb}
+use Rattle.std.specs.Prelude.{Result, Ok, Err}
 use Rattle.words.specs.Choice.{if}
+use Rattle.words.specs.declared.refusal.Refusal.{Refusal}
 use Rattle.boot_strap.specs.declared.Manner.TheVariants.{Strict, Lenient}
 use Rattle.boot_strap.specs.declared.Strap.{Strap}
-use Rattle.boot_strap.specs.declared.StrapAnswer.{StrapAnswer}
-use Rattle.boot_strap.specs.declared.StrapAnswer.TheVariants.{Decoded, Refused}
 use Rattle.boot_strap.specs.Strap.{strap_limit, bits, is_device, is_reserved, decode_as}
 use Rattle.boot_strap.specs.Strap.{decode_short, numbers_short, same_answer, label_answer}
 use Rattle.boot_strap.specs.Manners.{refused_sub_mode, wrong_bit, decoded_unless, EntryManners}
@@ -45,15 +45,15 @@ unfolding decode_as
 lenient_is v = rw (reserved_lenient v)
 
 -- what is decoded strictly is decoded alike leniently
-pub strict_lenient : (v : ℕ) (s : Strap) → decode_as Strict v ≡ Decoded s → decode_as Lenient v ≡ Decoded s
-strict_lenient v s e = lenient_is v ∙ go (ltb strap_limit v) (refused_sub_mode v) (wrong_bit v) _ _ _ _ (sym (strict_is v) ∙ e)
+pub strict_lenient : (v : ℕ) (s : Strap) → decode_as Strict v ≡ Ok s → decode_as Lenient v ≡ Ok s
+strict_lenient v s e = lenient_is v ∙ go (ltb strap_limit v) (refused_sub_mode v) (wrong_bit v) _ _ _ (sym (strict_is v) ∙ e)
   where
-    go : (a b c : Bool) (x z : StrapAnswer) (n p : ℕ)
-        → if a x (if (b || c) (Refused n p) z) ≡ Decoded s → if a x (if b (Refused n p) z) ≡ Decoded s
-    go true b c x z n p e = e
-    go false true c x z n p e = e
-    go false false true x z n p e = cc
-    go false false false x z n p e = e
+    go : (a b c : Bool) (x z : Result Strap Refusal) (r : Refusal)
+        → if a x (if (b || c) (Err r) z) ≡ Ok s → if a x (if b (Err r) z) ≡ Ok s
+    go true b c x z r e = e
+    go false true c x z r e = e
+    go false false true x z r e = cc
+    go false false false x z r e = e
 
 -- ---- the calls that are given no manner
 

@@ -1,24 +1,30 @@
 -- Laws of the strap value: its bits, its numbers and the comparison.
 use Prim.Native.Nat.{ℕ, zero, suc, ◌%◌, ◌<◌}
 use mathlib.Core.Path.{◌≡◌, refl, sym, ap, ◌∙◌}
-use mathlib.Core.Bool.{Bool, true, false, ◌&&◌, beq, and_assoc, and-true}
+use mathlib.Core.Bool.{Bool, true, false}
 use mathlib.Core.List.{List, [], ◌∷◌}
-use mathlib.Core.Logic.{◌↔◌}
+use mathlib.Core.Logic.{◌↔◌, by_cases}
+use native.Mathlib.Decide.{ℕ_discrete}
 use native.Mathlib.Nat.{mod-lt}
 use native.Mathlib.Omega.{arith}
 use mir.Val.{bool_byte}
 use lib.Dec.{eqb, lit<}
 use lib.ListN.{get_or}
 use borrow.Author.Tests.{eqb-true, eq-eqb, ne_eqb}
+use Rattle.std.specs.Prelude.{Result, Ok, Err}
+use Rattle.std.specs.Cmp.Derive.{one_truth}
+use Rattle.std.proofs.Common.{rules}
 use Rattle.words.specs.Choice.{if}
+use Rattle.words.specs.declared.refusal.Refusal.{Refusal}
+use Rattle.words.specs.Refusal.{not_open_number, number_of, place_of, address_of}
+use Rattle.words.proofs.RefusalLaws.{same_refusal, number_some, no_address}
 use Rattle.words.proofs.ChoiceLaws.{and_yes}
+use Rattle.boot_strap.specs.contracts.StrapPartialEq.TheImpl as strap_eq
 use Rattle.boot_strap.specs.declared.Manner.{Manner}
 use Rattle.boot_strap.specs.declared.Strap.{Strap}
 use Rattle.boot_strap.specs.declared.Strap.TheVariants.{Sleep, Emif16, Link, Ethernet, Pcie, I2cMaster, I2cPassive, Spi}
-use Rattle.boot_strap.specs.declared.StrapAnswer.{StrapAnswer}
-use Rattle.boot_strap.specs.declared.StrapAnswer.TheVariants.{Decoded, Refused}
-use Rattle.boot_strap.specs.Strap.{strap_of, row_of, decode_as, numbers_as}
-use Rattle.boot_strap.specs.Strap.{kind_of, fields_of, answer_numbers, same_list, same_strap, same_refused, same_of}
+use Rattle.boot_strap.specs.Strap.{strap_of, row_of, decode_as, numbers_as, told_address, nine}
+use Rattle.boot_strap.specs.Strap.{kind_of, fields_of, answer_numbers, same_list, same_strap, same_of, same_answer_of}
 
 -- ---- bits
 
@@ -53,14 +59,13 @@ unfolding decode_as numbers_as answer_numbers row
 numbers_are manner v = simp (if_ap answer_numbers, ← row_is v)
 
 -- what equals the definition has its numbers
-pub with_numbers : (manner : Manner) (v : ℕ) (r : StrapAnswer)
-    → r ≡ decode_as manner v → (r ≡ decode_as manner v) × (answer_numbers r ≡ numbers_as manner v)
-with_numbers manner v r e = (e, ap answer_numbers e ∙ numbers_are manner v)
+pub with_numbers : (manner : Manner) (v : ℕ) (r : Result Strap Refusal) → r ≡ decode_as manner v → answer_numbers r ≡ numbers_as manner v
+with_numbers manner v r e = ap answer_numbers e ∙ numbers_are manner v
 
 -- ---- a strap from its numbers
 
 -- the strap of a kind with these fields
-unfoldable pub strap_from : ℕ → List ℕ → Strap
+unfoldable strap_from : ℕ → List ℕ → Strap
 strap_from kind f =
     if (eqb kind 0) (Sleep (get_or f 0 0) (eqb (get_or f 1 0) 1) (get_or f 2 0))
     (if (eqb kind 1) (Emif16 (get_or f 0 0) (eqb (get_or f 1 0) 1) (get_or f 2 0))
@@ -91,13 +96,27 @@ strap_back (Spi mode five_pin wide select table sr) = rw (byte_bool five_pin, by
 strap_inj : (s t : Strap) → kind_of s ≡ kind_of t → fields_of s ≡ fields_of t → s ≡ t
 strap_inj s t k f = sym (strap_back s) ∙ (λ i. strap_from (k i) (f i)) ∙ strap_back t
 
+-- the address of a refusal, where it tells one
+told_first : (r : Refusal) → get_or (told_address r) 0 0 ≡ address_of r
+told_first r = by_cases (ℕ_discrete (number_of r) not_open_number)
+    (λ z. simp (eq-eqb _ _ z))
+    (λ n. simp (ne_eqb _ _ n) (sym (no_address r n)))
+
+-- a refusal in nine numbers
+pub nine_refused : (r : Refusal) → number_of r ∷ place_of r ∷ address_of r ∷ 0 ∷ 0 ∷ 0 ∷ 0 ∷ 0 ∷ 0 ∷ [] ≡ nine (answer_numbers (Err r))
+unfolding answer_numbers nine
+nine_refused r = by_cases (ℕ_discrete (number_of r) not_open_number)
+    (λ z. simp (eq-eqb _ _ z))
+    (λ n. simp (ne_eqb _ _ n, no_address r n))
+
 -- answers with the same numbers are the same
-pub numbers_inj : (a b : StrapAnswer) → answer_numbers a ≡ answer_numbers b → a ≡ b
+pub numbers_inj : (a b : Result Strap Refusal) → answer_numbers a ≡ answer_numbers b → a ≡ b
 unfolding answer_numbers
-numbers_inj (Refused n p) (Refused m q) e = cc
-numbers_inj (Refused n p) (Decoded t) e = cc
-numbers_inj (Decoded s) (Refused m q) e = cc
-numbers_inj (Decoded s) (Decoded t) e = ap Decoded (strap_inj s t (cc) (cc))
+numbers_inj (Err q) (Err r) e =
+    ap Err (same_refusal q r (cc) (cc) (sym (told_first q) ∙ ap (λ (xs : List ℕ). get_or xs 2 0) e ∙ told_first r))
+numbers_inj (Err q) (Ok t) e = absurd (number_some q (ap (λ (xs : List ℕ). get_or xs 0 0) e))
+numbers_inj (Ok s) (Err r) e = absurd (number_some r (sym (ap (λ (xs : List ℕ). get_or xs 0 0) e)))
+numbers_inj (Ok s) (Ok t) e = ap Ok (strap_inj s t (cc) (cc))
 
 -- ---- the comparison
 
@@ -126,29 +145,26 @@ same_iff s t = (
   λ e. rw (e, eqb_same (kind_of t)) (same_list_lem (fields_of t)),
 )
 
--- a first value that is refused decides, whatever the second is
-pub first_refused : (n p : ℕ) (a b : StrapAnswer) → Refused n p ≡ a → same_refused n p ≡ same_of a b
+-- what the derived `==` answers of two straps
+abbrev pub equal : Strap → Strap → Bool
+equal = (strap_eq.ghosts).eq
+
+equal_so : (s t : Strap) → equal s t ≡ true → s ≡ t
+equal_so s t e = search rules
+
+equal_self : (s : Strap) → equal s s ≡ true
+equal_self s = search rules
+
+-- it is that they have one kind and equal fields
+pub equal_same : (s t : Strap) → equal s t ≡ same_strap s t
+equal_same s t =
+    one_truth (equal s t) (same_strap s t)
+    (λ e. (same_iff s t).1 (equal_so s t e))
+    (λ e. rw ((same_iff s t).0 e) (equal_self t))
+
+-- of two straps the answer is that of `==`
+pub same_decoded : (a b : Result Strap Refusal) (s t : Strap) (c : Bool)
+    → Ok s ≡ a → Ok t ≡ b → c ≡ equal s t → same_answer_of (Ok c) ≡ same_of a b
 unfolding same_of
-first_refused n p a b e = ap (λ (x : StrapAnswer). same_of x b) e
-
--- a strap of kind k is made of its fields
-pub of_kind : (t : Strap) (k : ℕ) → kind_of t ≡ k → t ≡ strap_from k (fields_of t)
-of_kind t k e = sym (strap_back t) ∙ ap (λ (n : ℕ). strap_from n (fields_of t)) e
-
--- a strap of another kind is not the same
-pub other_kind : (s t : Strap) → (kind_of s ≡ kind_of t → ⊥) → false ≡ same_strap s t
-unfolding same_strap
-other_kind s t d = rw (ne_eqb _ _ d)
-
--- equal Bools are equal as numbers
-pub byte_beq : (a b : Bool) → eqb (bool_byte a) (bool_byte b) ≡ beq a b
-byte_beq true true = refl
-byte_beq true false = refl
-byte_beq false true = refl
-byte_beq false false = refl
-
--- the six fields of two SPI straps
-pub spi_same : (m n : ℕ) (f g w x : Bool) (c d t u r s : ℕ)
-    → (eqb m n && beq f g && beq w x && eqb c d && eqb t u && eqb r s) ≡ same_strap (Spi m f w c t r) (Spi n g x d u s)
-unfolding same_strap kind_of fields_of same_list
-spi_same m n f g w x c d t u r s = simp (and_assoc, and-true, byte_beq)
+same_decoded a b s t c first second e =
+    ap (λ (x : Bool). same_answer_of (Ok x)) (e ∙ equal_same s t) ∙ (λ i. same_of (first i) (second i))

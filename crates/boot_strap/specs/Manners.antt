@@ -1,10 +1,10 @@
 -- Which manner is used by the calls that are given none, and what the two manners give. v and w are strap values.
-use Rattle.std.specs.Prelude.{ℕ, ◌≡◌, Bool, false, not, ◌&&◌, ◌||◌, ltb, leb, eqb}
+use Rattle.std.specs.Prelude.{ℕ, ◌≡◌, Bool, false, not, ◌&&◌, ◌||◌, ltb, leb, eqb, Result, Ok, Err}
 use Rattle.words.specs.Choice.{if}
-use Rattle.words.specs.Refusal.{strap_long_number, strap_reserved_number}
+use Rattle.words.specs.declared.refusal.Refusal.{Refusal}
+use Rattle.words.specs.declared.refusal.Refusal.TheVariants.{StrapLong, StrapReserved}
 use Rattle.boot_strap.specs.declared.Manner.TheVariants.{Strict, Lenient}
-use Rattle.boot_strap.specs.declared.StrapAnswer.{StrapAnswer}
-use Rattle.boot_strap.specs.declared.StrapAnswer.TheVariants.{Decoded, Refused}
+use Rattle.boot_strap.specs.declared.Strap.{Strap}
 use Rattle.boot_strap.specs.Strap.{bits, is_set, is_device, strap_of, decode_as, numbers_as}
 use Rattle.boot_strap.specs.Strap.{decode_short, numbers_short, same_of, same_answer, label_of, label_answer}
 
@@ -22,11 +22,11 @@ wrong_bit v =
     false))
 
 -- 18 for a value over 8,191, 19 where the test holds, else the strap
-abbrev pub decoded_unless : Bool → ℕ → StrapAnswer
+abbrev pub decoded_unless : Bool → ℕ → Result Strap Refusal
 decoded_unless test v =
-    if (ltb 8191 v) (Refused strap_long_number 0)
-    (if test (Refused strap_reserved_number 0)
-    (Decoded (strap_of v)))
+    if (ltb 8191 v) (Err StrapLong)
+    (if test (Err StrapReserved)
+    (Ok (strap_of v)))
 
 pub record EntryManners : Type 0 where
   -- for every value the short entry's answer is the strict manner's: it decodes exactly the values that the strict manner does

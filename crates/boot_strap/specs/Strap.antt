@@ -1,16 +1,15 @@
 -- The strap value: what its 13 bits select. v is a strap value.
 use Rattle.std.specs.Prelude.{ℕ, ◌+◌, ◌-◌, ◌/◌, ◌%◌, ◌^◌, Bool, true, false, not, ◌&&◌, ◌||◌, List, [], ◌∷◌, ◌++◌, ltb, leb, eqb, take, replicate}
+use Rattle.std.specs.Prelude.{Result, Ok, Err}
 use mir.Val.{bool_byte}
 use Rattle.words.specs.Choice.{if}
-use Rattle.words.specs.Refusal.{strap_long_number, strap_reserved_number}
+use Rattle.words.specs.declared.refusal.Refusal.{Refusal}
+use Rattle.words.specs.declared.refusal.Refusal.TheVariants.{StrapLong, StrapReserved}
+use Rattle.words.specs.Refusal.{strap_long_number, strap_reserved_number, number_of, place_of, not_open_number, address_of}
 use Rattle.boot_strap.specs.declared.Manner.{Manner}
 use Rattle.boot_strap.specs.declared.Manner.TheVariants.{Strict, Lenient}
 use Rattle.boot_strap.specs.declared.Strap.{Strap}
 use Rattle.boot_strap.specs.declared.Strap.TheVariants.{Sleep, Emif16, Link, Ethernet, Pcie, I2cMaster, I2cPassive, Spi}
-use Rattle.boot_strap.specs.declared.StrapAnswer.{StrapAnswer}
-use Rattle.boot_strap.specs.declared.StrapAnswer.TheVariants.{Decoded, Refused}
-use Rattle.boot_strap.specs.declared.SameAnswer.{SameAnswer}
-use Rattle.boot_strap.specs.declared.LabelAnswer.{LabelAnswer}
 
 -- the largest value of 13 bits
 abbrev pub strap_limit : ℕ
@@ -87,11 +86,11 @@ is_reserved strict v =
 -- ---- decoding
 
 -- the answer in a manner
-unfoldable pub decode_as : Manner → ℕ → StrapAnswer
+unfoldable pub decode_as : Manner → ℕ → Result Strap Refusal
 decode_as manner v =
-    if (ltb strap_limit v) (Refused strap_long_number 0)
-    (if (is_reserved (is_strict manner) v) (Refused strap_reserved_number 0)
-    (Decoded (strap_of v)))
+    if (ltb strap_limit v) (Err StrapLong)
+    (if (is_reserved (is_strict manner) v) (Err StrapReserved)
+    (Ok (strap_of v)))
 
 -- the same in numbers: a refusal's number and place, or zero for both and the row
 unfoldable pub numbers_as : Manner → ℕ → List ℕ
@@ -104,7 +103,7 @@ numbers_as manner v =
 abbrev pub no_manner : Manner
 no_manner = Strict
 
-unfoldable pub decode_short : ℕ → StrapAnswer
+unfoldable pub decode_short : ℕ → Result Strap Refusal
 decode_short v = decode_as no_manner v
 
 unfoldable pub numbers_short : ℕ → List ℕ
@@ -134,10 +133,15 @@ fields_of (I2cMaster number) = number ∷ []
 fields_of (I2cPassive address) = address ∷ []
 fields_of (Spi mode five_pin wide select table sr) = mode ∷ bool_byte five_pin ∷ bool_byte wide ∷ select ∷ table ∷ sr ∷ []
 
--- the number, the place, and for a strap its kind and fields
-unfoldable pub answer_numbers : StrapAnswer → List ℕ
-answer_numbers (Refused number place) = number ∷ place ∷ []
-answer_numbers (Decoded s) = 0 ∷ 0 ∷ kind_of s ∷ fields_of s
+-- the address of a refusal that tells one
+abbrev pub told_address : Refusal → List ℕ
+told_address r = if (eqb (number_of r) not_open_number) (address_of r ∷ []) []
+
+-- the number, the place, and for a strap its kind and fields. No refusal of a strap tells an address; with it the numbers tell
+-- every answer.
+unfoldable pub answer_numbers : Result Strap Refusal → List ℕ
+answer_numbers (Err r) = number_of r ∷ place_of r ∷ told_address r
+answer_numbers (Ok s) = 0 ∷ 0 ∷ kind_of s ∷ fields_of s
 
 -- nine numbers: those of a list, and zero after
 unfoldable pub nine : List ℕ → List ℕ
@@ -156,24 +160,46 @@ same_list (x ∷ xs) (y ∷ ys) = eqb x y && same_list xs ys
 unfoldable pub same_strap : Strap → Strap → Bool
 same_strap s t = eqb (kind_of s) (kind_of t) && same_list (fields_of s) (fields_of t)
 
+-- a comparison in numbers: a refusal's number and place, or whether the two are the same
+pub record SameAnswer : Type 0 where
+  pub number : ℕ
+  pub place : ℕ
+  pub same : Bool
+
 abbrev pub same_refused : ℕ → ℕ → SameAnswer
 same_refused number place = record { number = number; place = place; same = false }
 
 -- the first value's refusal, the second's, or whether the two are the same
-unfoldable pub same_of : StrapAnswer → StrapAnswer → SameAnswer
-same_of (Refused number place) second = same_refused number place
-same_of (Decoded s) (Refused number place) = same_refused number place
-same_of (Decoded s) (Decoded t) = record { number = 0; place = 0; same = same_strap s t }
+unfoldable pub same_of : Result Strap Refusal → Result Strap Refusal → SameAnswer
+same_of (Err r) second = same_refused (number_of r) (place_of r)
+same_of (Ok s) (Err r) = same_refused (number_of r) (place_of r)
+same_of (Ok s) (Ok t) = record { number = 0; place = 0; same = same_strap s t }
 
 -- the answer for two values, each taken leniently
 unfoldable pub same_answer : ℕ → ℕ → SameAnswer
 same_answer v w = same_of (decode_as Lenient v) (decode_as Lenient w)
 
+-- what a comparison gives, in numbers
+abbrev pub same_answer_of : Result Bool Refusal → SameAnswer
+same_answer_of (Err r) = same_refused (number_of r) (place_of r)
+same_answer_of (Ok same) = record { number = 0; place = 0; same = same }
+
+-- a board label in numbers: a refusal's number and place, or the label's number
+pub record LabelAnswer : Type 0 where
+  pub number : ℕ
+  pub place : ℕ
+  pub label : ℕ
+
 -- the board label's number: the kind's place in the table of kinds
-unfoldable pub label_of : StrapAnswer → LabelAnswer
-label_of (Refused number place) = record { number = number; place = place; label = 0 }
-label_of (Decoded s) = record { number = 0; place = 0; label = kind_of s }
+unfoldable pub label_of : Result Strap Refusal → LabelAnswer
+label_of (Err r) = record { number = number_of r; place = place_of r; label = 0 }
+label_of (Ok s) = record { number = 0; place = 0; label = kind_of s }
 
 -- the answer for a value, taken leniently
 unfoldable pub label_answer : ℕ → LabelAnswer
 label_answer v = label_of (decode_as Lenient v)
+
+-- what a label gives, in numbers
+abbrev pub label_answer_of : Result ℕ Refusal → LabelAnswer
+label_answer_of (Err r) = record { number = number_of r; place = place_of r; label = 0 }
+label_answer_of (Ok label) = record { number = 0; place = 0; label = label }

@@ -2,23 +2,23 @@
 #![tactic(auto)]
 
 ghost use Rattle.std.specs.Prelude.{◌≡◌, [], ◌∷◌};
-ghost use Rattle.boot_strap.specs.Strap.{strap_of, is_strict, is_reserved, decode_as, numbers_as, decode_short, numbers_short};
-ghost use Rattle.boot_strap.specs.Strap.{kind_of, fields_of, answer_numbers, nine, same_strap, same_refused, same_answer, label_answer};
+ghost use Rattle.boot_strap.specs.Strap.{strap_of, is_reserved, decode_as, numbers_as, decode_short, numbers_short};
+ghost use Rattle.boot_strap.specs.Strap.{kind_of, fields_of, answer_numbers, nine, same_answer, same_answer_of, label_answer, label_answer_of};
 
-use words::refusal::{STRAP_LONG, STRAP_RESERVED};
+use words::Refusal;
 
 // The largest value of 13 bits.
 const STRAP_LIMIT: u32 = 8191;
 
 // How reserved bits are taken: judged, or ignored.
-#[derive(Clone, Copy)]
+#[derive(Clone, Copy, Debug, PartialEq, Eq)]
 pub enum Manner {
     Strict,
     Lenient,
 }
 
 // What a strap value selects, with the fields of each kind.
-#[derive(Clone, Copy)]
+#[derive(Clone, Copy, Debug, PartialEq, Eq)]
 pub enum Strap {
     Sleep {
         sr: u32,
@@ -63,32 +63,10 @@ pub enum Strap {
     },
 }
 
-// The strap that was decoded, or a refusal's number and place.
-#[derive(Clone, Copy)]
-pub enum StrapAnswer {
-    Decoded(Strap),
-    Refused { number: u32, place: usize },
-}
-
-// Whether two strap values are the same, or a refusal.
-#[derive(Clone, Copy)]
-pub struct SameAnswer {
-    pub number: u32,
-    pub place: usize,
-    pub same: bool,
-}
-
-// The board label's number, or a refusal.
-#[derive(Clone, Copy)]
-pub struct LabelAnswer {
-    pub number: u32,
-    pub place: usize,
-    pub label: u32,
-}
-
 // ---- decoding
 
 // What a value selects, by its device.
+#[tactic(auto, unfolding(crate::specs::Strap::strap_of))]
 fn strap_of(value: u32) -> Strap
     ensures { result ≡ strap_of value }
 {
@@ -98,9 +76,10 @@ fn strap_of(value: u32) -> Strap
             let wait = value / 128 % 2 == 1;
             let clock = value / 1024 % 8;
             if value / 32 % 4 == 0 {
-                return Strap::Sleep { sr, wait, clock };
+                Strap::Sleep { sr, wait, clock }
+            } else {
+                Strap::Emif16 { sr, wait, clock }
             }
-            Strap::Emif16 { sr, wait, clock }
         }
         1 | 7 => Strap::Link {
             device: value % 8,
@@ -121,12 +100,13 @@ fn strap_of(value: u32) -> Strap
         },
         5 => {
             if value / 256 % 2 == 1 {
-                return Strap::I2cPassive {
+                Strap::I2cPassive {
                     address: value / 32 % 8,
-                };
-            }
-            Strap::I2cMaster {
-                number: value / 8 % 1024,
+                }
+            } else {
+                Strap::I2cMaster {
+                    number: value / 8 % 1024,
+                }
             }
         }
         _ => Strap::Spi {
@@ -140,16 +120,8 @@ fn strap_of(value: u32) -> Strap
     }
 }
 
-fn is_strict(manner: Manner) -> bool
-    ensures { result ≡ is_strict manner }
-{
-    match manner {
-        Manner::Strict => true,
-        Manner::Lenient => false,
-    }
-}
-
 // Whether a value is reserved: sub-modes 2 and 3 of device 0 always, other bits where they are judged.
+#[tactic(auto, unfolding(crate::specs::Strap::is_reserved))]
 fn is_reserved(value: u32, strict: bool) -> bool
     ensures { result ≡ is_reserved strict value }
 {
@@ -167,27 +139,23 @@ fn is_reserved(value: u32, strict: bool) -> bool
 }
 
 // Decodes a strap value in a manner.
-pub fn decode_as(value: u32, manner: Manner) -> StrapAnswer
+#[tactic(auto, using(crate::proofs::StrapLaws::with_numbers), unfolding(crate::specs::Strap::decode_as))]
+pub fn decode_as(value: u32, manner: Manner) -> Result<Strap, Refusal>
     ensures value { result ≡ decode_as manner value }
     ensures numbers { answer_numbers result ≡ numbers_as manner value }
 {
     if STRAP_LIMIT < value {
-        return StrapAnswer::Refused {
-            number: STRAP_LONG,
-            place: 0,
-        };
+        return Err(Refusal::StrapLong);
     }
-    if is_reserved(value, is_strict(manner)) {
-        return StrapAnswer::Refused {
-            number: STRAP_RESERVED,
-            place: 0,
-        };
+    if is_reserved(value, manner == Manner::Strict) {
+        return Err(Refusal::StrapReserved);
     }
-    StrapAnswer::Decoded(strap_of(value))
+    Ok(strap_of(value))
 }
 
 // Decodes a strap value where no manner is named: in the strict one.
-pub fn decode(value: u32) -> StrapAnswer
+#[tactic(auto, unfolding(crate::specs::Strap::decode_short, crate::specs::Strap::numbers_short))]
+pub fn decode(value: u32) -> Result<Strap, Refusal>
     ensures value { result ≡ decode_short value }
     ensures numbers { answer_numbers result ≡ numbers_short value }
 {
@@ -197,6 +165,7 @@ pub fn decode(value: u32) -> StrapAnswer
 // ---- the answer in numbers
 
 // The kind's place in the table of kinds.
+#[tactic(auto, unfolding(crate::specs::Strap::kind_of))]
 fn kind_of(strap: Strap) -> u32
     ensures { result ≡ kind_of strap }
 {
@@ -230,6 +199,7 @@ fn row(kind: u32, a: u32, b: u32, c: u32, d: u32, e: u32, f: u32) -> [u64; 9]
 }
 
 // A strap in nine numbers.
+#[tactic(auto, unfolding(crate::specs::Strap::kind_of, crate::specs::Strap::fields_of, crate::specs::Strap::nine))]
 fn strap_numbers(strap: Strap) -> [u64; 9]
     ensures { result ≡ nine (0 ∷ 0 ∷ kind_of strap ∷ fields_of strap) }
 {
@@ -272,14 +242,16 @@ fn strap_numbers(strap: Strap) -> [u64; 9]
 }
 
 // An answer in nine numbers: number, place, kind and fields, zero after.
-pub fn numbers(answer: StrapAnswer) -> [u64; 9]
+#[tactic(auto, using(crate::proofs::StrapLaws::nine_refused), unfolding(crate::specs::Strap::answer_numbers, crate::specs::Strap::nine))]
+pub fn numbers(answer: Result<Strap, Refusal>) -> [u64; 9]
     ensures { result ≡ nine (answer_numbers answer) }
 {
     match answer {
-        StrapAnswer::Refused { number, place } => [
-            number as u64,
-            place as u64,
-            0,
+        Ok(strap) => strap_numbers(strap),
+        Err(refusal) => [
+            refusal.number() as u64,
+            refusal.place() as u64,
+            refusal.address() as u64,
             0,
             0,
             0,
@@ -287,166 +259,23 @@ pub fn numbers(answer: StrapAnswer) -> [u64; 9]
             0,
             0,
         ],
-        StrapAnswer::Decoded(strap) => strap_numbers(strap),
     }
 }
 
 // ---- the comparison and the board label, in the lenient manner
 
-// Whether two straps have one kind and equal fields.
-fn same_strap(first: Strap, second: Strap) -> bool
-    ensures { result ≡ same_strap first second }
-{
-    match first {
-        Strap::Sleep { sr, wait, clock } => {
-            let Strap::Sleep {
-                sr: s,
-                wait: w,
-                clock: c,
-            } = second
-            else {
-                return false;
-            };
-            (sr == s) & (wait == w) & (clock == c)
-        }
-        Strap::Emif16 { sr, wait, clock } => {
-            let Strap::Emif16 {
-                sr: s,
-                wait: w,
-                clock: c,
-            } = second
-            else {
-                return false;
-            };
-            (sr == s) & (wait == w) & (clock == c)
-        }
-        Strap::Link {
-            device,
-            number,
-            clock,
-        } => {
-            let Strap::Link {
-                device: d,
-                number: n,
-                clock: c,
-            } = second
-            else {
-                return false;
-            };
-            (device == d) & (number == n) & (clock == c)
-        }
-        Strap::Ethernet {
-            device,
-            multiplier,
-            connection,
-            id,
-            clock,
-        } => {
-            let Strap::Ethernet {
-                device: d,
-                multiplier: m,
-                connection: n,
-                id: i,
-                clock: c,
-            } = second
-            else {
-                return false;
-            };
-            (device == d) & (multiplier == m) & (connection == n) & (id == i) & (clock == c)
-        }
-        Strap::Pcie { bar, sr, clock } => {
-            let Strap::Pcie {
-                bar: b,
-                sr: s,
-                clock: c,
-            } = second
-            else {
-                return false;
-            };
-            (bar == b) & (sr == s) & (clock == c)
-        }
-        Strap::I2cMaster { number } => {
-            let Strap::I2cMaster { number: n } = second else {
-                return false;
-            };
-            number == n
-        }
-        Strap::I2cPassive { address } => {
-            let Strap::I2cPassive { address: a } = second else {
-                return false;
-            };
-            address == a
-        }
-        Strap::Spi {
-            mode,
-            five_pin,
-            wide_address,
-            chip_select,
-            table,
-            sr,
-        } => {
-            let Strap::Spi {
-                mode: m,
-                five_pin: f,
-                wide_address: w,
-                chip_select: c,
-                table: t,
-                sr: s,
-            } = second
-            else {
-                return false;
-            };
-            (mode == m)
-                & (five_pin == f)
-                & (wide_address == w)
-                & (chip_select == c)
-                & (table == t)
-                & (sr == s)
-        }
-    }
-}
-
-fn same_refused(number: u32, place: usize) -> SameAnswer
-    ensures { result ≡ same_refused number place }
-{
-    SameAnswer {
-        number: number,
-        place: place,
-        same: false,
-    }
-}
-
 // Whether two strap values, decoded in the lenient manner, have one kind and equal fields. The first value's refusal comes before the second's.
-pub fn same(first: u32, second: u32) -> SameAnswer
-    ensures { result ≡ same_answer first second }
+#[tactic(auto, unfolding(crate::specs::Strap::same_answer, crate::specs::Strap::same_of))]
+pub fn same(first: u32, second: u32) -> Result<bool, Refusal>
+    ensures { same_answer_of result ≡ same_answer first second }
 {
-    match decode_as(first, Manner::Lenient) {
-        StrapAnswer::Refused { number, place } => same_refused(number, place),
-        StrapAnswer::Decoded(s) => match decode_as(second, Manner::Lenient) {
-            StrapAnswer::Refused { number, place } => same_refused(number, place),
-            StrapAnswer::Decoded(t) => SameAnswer {
-                number: 0,
-                place: 0,
-                same: same_strap(s, t),
-            },
-        },
-    }
+    Ok(decode_as(first, Manner::Lenient)? == decode_as(second, Manner::Lenient)?)
 }
 
 // The board label's number of a value, decoded in the lenient manner: the kind's place in the table of kinds.
-pub fn label(value: u32) -> LabelAnswer
-    ensures { result ≡ label_answer value }
+#[tactic(auto, unfolding(crate::specs::Strap::label_answer, crate::specs::Strap::label_of))]
+pub fn label(value: u32) -> Result<u32, Refusal>
+    ensures { label_answer_of result ≡ label_answer value }
 {
-    match decode_as(value, Manner::Lenient) {
-        StrapAnswer::Refused { number, place } => LabelAnswer {
-            number: number,
-            place: place,
-            label: 0,
-        },
-        StrapAnswer::Decoded(strap) => LabelAnswer {
-            number: 0,
-            place: 0,
-            label: kind_of(strap),
-        },
-    }
+    Ok(kind_of(decode_as(value, Manner::Lenient)?))
 }

@@ -13,10 +13,8 @@ use Rattle.words.specs.declared.ByteOrder.{ByteOrder}
 use Rattle.words.specs.Refusal.{table_long_number, table_cut_number}
 use Rattle.words.proofs.ChoiceLaws.{if_cases}
 use Rattle.words.proofs.WordLaws.{pad_aligns}
-use Rattle.boot_table.specs.declared.Step.TheVariants.{Section, End, Fault}
-use Rattle.boot_table.specs.declared.Form.{Form}
-use Rattle.boot_table.specs.Table.{Sect, Reading, step_at, section_at, before, read_on, reading}
-use Rattle.boot_table.specs.Form.{table_limit, total, misformed, formed, read_form, form_of, WellFormed}
+use Rattle.boot_table.specs.Table.{Section, End, Fault, Sect, Reading, step_at, section_at, before, read_on, reading}
+use Rattle.boot_table.specs.Form.{Form, table_limit, total, misformed, formed, read_form, form_of, WellFormed}
 use Rattle.boot_table.specs.Walk.{tally}
 use Rattle.boot_table.proofs.StepLaws.{section_of, end_of, length_body, fault_number}
 use Rattle.boot_table.proofs.ReadLaws.{read_section, read_end, read_fault, read_placed, read_room, read_begins, whole_ind}

@@ -13,9 +13,7 @@ use Rattle.words.specs.Choice.{if}
 use Rattle.words.specs.Word.{Bytes, pad_count}
 use Rattle.words.specs.Header.{header_at, header_bytes}
 use Rattle.words.proofs.HeaderLaws.{length_header, bytes_header, header_lt}
-use Rattle.boot_table.specs.declared.Step.{Step}
-use Rattle.boot_table.specs.declared.Step.TheVariants.{End, Fault}
-use Rattle.boot_table.specs.Table.{entry_of, chunk, chunks, step_at, section_at, before, read_on, reading}
+use Rattle.boot_table.specs.Table.{Step, End, Fault, entry_of, chunk, chunks, step_at, section_at, before, read_on, reading}
 use Rattle.boot_table.specs.Valid.{Valid, All, none, also}
 use Rattle.boot_table.proofs.StepLaws.{IsSection, section_of, fault_number, length_body, length_pads}
 use Rattle.boot_table.proofs.ReadLaws.{read_section, read_end, read_fault, read_begins, step_ind}

@@ -11,9 +11,7 @@ use Rattle.words.specs.declared.ByteOrder.{ByteOrder}
 use Rattle.words.specs.Word.{pad_count}
 use Rattle.words.specs.Header.{header_at}
 use Rattle.words.specs.Refusal.{table_cut_number}
-use Rattle.boot_table.specs.declared.Step.{Step}
-use Rattle.boot_table.specs.declared.Step.TheVariants.{Section, End, Fault}
-use Rattle.boot_table.specs.Table.{Reading, stop, step_at, section_at, before, on_step, read_from, read_on, reading}
+use Rattle.boot_table.specs.Table.{Step, Section, End, Fault, Reading, stop, step_at, section_at, before, on_step, read_from, read_on, reading}
 use Rattle.boot_table.proofs.StepLaws.{IsSection, step_cut, section_of, end_of, fault_of, fault_number}
 
 -- ---- how many steps are allowed does not matter where they are enough

@@ -1,20 +1,20 @@
 -- The walk step: what each outcome says of the table, and when it comes out.
 use Prim.Native.Nat.{ℕ, ◌+◌, ◌^◌, ◌≤◌, ◌<◌}
-use mathlib.Core.Path.{◌≡◌, refl, sym, ◌∙◌, subst}
+use mathlib.Core.Path.{◌≡◌, refl, sym, ap, ◌∙◌, subst}
 use mathlib.Core.List.{List}
 use native.Mathlib.Omega.{arith}
 use borrow.Author.Tests.{eq-eqb, ne_eqb, lt-ltb, le-ltb, ltb-true, ltb-false, eqb-true, eqb-false}
 use lib.ListN.{length, take, drop, length-drop}
 use lib.Seq.{length-take-le}
 use lib.Dec.{ltb, eqb}
+use Rattle.std.specs.Prelude.{Option, Some, None, Ok}
 use Rattle.words.specs.declared.ByteOrder.{ByteOrder}
 use Rattle.words.specs.Word.{pad_count}
 use Rattle.words.specs.Header.{header_at}
 use Rattle.words.specs.Refusal.{table_cut_number, bytes_after_number, past_top_number}
 use Rattle.words.proofs.ChoiceLaws.{if_split}
-use Rattle.boot_table.specs.declared.Step.{Step}
-use Rattle.boot_table.specs.declared.Step.TheVariants.{Section, End, Fault}
-use Rattle.boot_table.specs.Table.{next_of, end_step, section_step, step_at, section_at}
+use Rattle.boot_table.specs.declared.Section.{Section as Found}
+use Rattle.boot_table.specs.Table.{Step, Section, End, Fault, next_of, end_step, section_step, step_at, section_at, step_of}
 
 -- ---- when a step comes out as a fault
 
@@ -161,13 +161,21 @@ fault_of o t at {number} {place} e = step_says o t at (Fault number place) e
 pub fault_number : (o : ByteOrder) (t : List ℕ) (at : ℕ) {number place : ℕ} → step_at o t at ≡ Fault number place → number ≡ 0 → ⊥
 fault_number o t at e z = omega (arith, (fault_of o t at e).least)
 
--- ---- the last else of a let-else knows what the step is not
-
 -- neither a section nor a fault
 pub end_left : (s : Step) → ((address size start next : ℕ) → s ≡ Section address size start next → ⊥) → ((number place : ℕ) → s ≡ Fault number place → ⊥) → s ≡ End
 end_left (Section address size start next) p q = absurd (p address size start next refl)
 end_left End p q = refl
 end_left (Fault number place) p q = absurd (q number place refl)
+
+-- ---- the step that the code answers
+
+-- a section
+pub section_found : (o : ByteOrder) (t : List ℕ) (at : ℕ) (r : Option Found) (s : Found) → step_of (Ok r) ≡ step_at o t at → r ≡ Some s → step_at o t at ≡ Section s.address s.size s.start s.next
+section_found o t at r s e i = sym e ∙ ap (λ (r : Option Found). step_of (Ok r)) i
+
+-- nothing: the end
+pub end_found : (o : ByteOrder) (t : List ℕ) (at : ℕ) (r : Option Found) → step_of (Ok r) ≡ step_at o t at → r ≡ None → step_at o t at ≡ End
+end_found o t at r e i = sym e ∙ ap (λ (r : Option Found). step_of (Ok r)) i
 
 -- ---- the section itself
 

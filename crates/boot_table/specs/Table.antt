@@ -1,12 +1,13 @@
 -- The boot table: its sections, its bytes, and what a walk over it finds. t is a table, o the byte order of its header words.
 use Rattle.std.specs.Prelude.{ℕ, zero, suc, ◌+◌, ◌^◌, List, [], ◌∷◌, ◌++◌, length, take, drop, ltb, eqb}
+use Rattle.std.specs.Prelude.{Option, Some, None, Result, Ok, Err}
 use Rattle.words.specs.Choice.{if}
 use Rattle.words.specs.declared.ByteOrder.{ByteOrder}
 use Rattle.words.specs.Word.{pad_count}
 use Rattle.words.specs.Header.{header_at, header_bytes}
-use Rattle.words.specs.Refusal.{table_cut_number, bytes_after_number, past_top_number}
-use Rattle.boot_table.specs.declared.Step.{Step}
-use Rattle.boot_table.specs.declared.Step.TheVariants.{Section, End, Fault}
+use Rattle.words.specs.Refusal.{table_cut_number, bytes_after_number, past_top_number, number_of, place_of}
+use Rattle.words.specs.declared.refusal.Refusal.{Refusal}
+use Rattle.boot_table.specs.declared.Section.{Section as Found}
 
 -- the entry word of a table
 abbrev pub entry_of : ByteOrder → List ℕ → ℕ
@@ -36,9 +37,21 @@ table_of o entry ss = header_bytes o entry ++ chunks o ss ++ header_bytes o 0
 
 -- ---- the walk step
 
+-- what stands at an offset: a section, whose data begins at start and after which next stands; the end; or a fault
+pub data Step : Type 0 where
+  Section : (address size start next : ℕ) → Step
+  End : Step
+  Fault : (number place : ℕ) → Step
+
 -- the offset after the section of size data bytes at offset at
 unfoldable pub next_of : ℕ → ℕ → ℕ
 next_of at size = at + 8 + size + pad_count size
+
+-- what the step that the code answers stands for
+abbrev pub step_of : Result (Option Found) Refusal → Step
+step_of (Ok (Some s)) = Section s.address s.size s.start s.next
+step_of (Ok None) = End
+step_of (Err refusal) = Fault (number_of refusal) (place_of refusal)
 
 -- a zero word at offset at: bytes stand after it, or it is the end
 unfoldable pub end_step : List ℕ → ℕ → Step

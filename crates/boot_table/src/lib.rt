@@ -1,38 +1,28 @@
 // The boot table: one walk step, and the form of a whole table. Its header words are read in the byte order that is given.
 #![tactic(auto)]
 
-ghost use Rattle.std.specs.Prelude.{◌≡◌, ◌+◌, ◌^◌, ◌≤◌, ◌<◌, length, ltb};
+ghost use Rattle.std.specs.Prelude.{Ok, ◌≡◌, ◌+◌, ◌^◌, ◌≤◌, ◌<◌, length, ltb};
 ghost use Rattle.words.specs.Header.{header_at};
-ghost use Rattle.boot_table.specs.Table.{entry_of, step_at, read_on};
-ghost use Rattle.boot_table.specs.Form.{misformed, form_of};
+ghost use Rattle.boot_table.specs.Table.{entry_of, step_of, step_at, read_on};
+ghost use Rattle.boot_table.specs.Form.{form_of, answer_of};
 
-use words::refusal::{BYTES_AFTER, PAST_TOP, TABLE_CUT, TABLE_LONG};
-use words::{ByteOrder, TOP, header_at, padded};
+use words::{ByteOrder, Refusal, TOP, header_at, padded};
 
 // How many bytes a table has at most.
 pub const TABLE_LIMIT: usize = 16_777_216;
 
-// What stands at an offset: a section, whose data begins at start and after which next stands; the end; or a fault.
-#[derive(Clone, Copy)]
-pub enum Step {
-    Section {
-        address: u32,
-        size: usize,
-        start: usize,
-        next: usize,
-    },
-    End,
-    Fault {
-        number: u32,
-        place: usize,
-    },
+// A section at an offset: its data begins at start, and after its pads next stands.
+#[derive(Clone, Copy, Debug, PartialEq, Eq)]
+pub struct Section {
+    pub address: u32,
+    pub size: usize,
+    pub start: usize,
+    pub next: usize,
 }
 
-// The form of a table: number 0 with its sections and data bytes, or its first fault.
-#[derive(Clone, Copy)]
-pub struct Form {
-    pub number: u32,
-    pub place: usize,
+// How many sections and data bytes a table has.
+#[derive(Clone, Copy, Debug, PartialEq, Eq)]
+pub struct Counts {
     pub sections: usize,
     pub bytes: usize,
 }
@@ -62,27 +52,18 @@ fn address_at(table: &[u8], order: ByteOrder, at: usize) -> u32
 }
 
 // Whether address plus size is over 2^32. The size is taken from 2^32, since with the sum the compiled walk is slower.
-pub fn is_past_top(address: u32, size: usize) -> bool
-    requires { size < 2 ^ 32 }
+pub fn is_past_top(address: u32, size: u32) -> bool
     ensures { result ≡ ltb (2 ^ 32) (address + size) }
 {
     TOP - (size as u64) < address as u64
 }
 
-fn fault(number: u32, place: usize) -> Step
-    ensures { result ≡ Step.Fault number place }
+// The walk step: the section at an offset of a table, nothing at its end, or a fault. Of a section it reads the size and the
+// address, never data or pads.
+pub fn step_at(table: &[u8], order: ByteOrder, at: usize) -> Result<Option<Section>, Refusal>
+    ensures { step_of result ≡ step_at order table.now at }
 {
-    Step::Fault {
-        number: number,
-        place: place,
-    }
-}
-
-// The walk step: what stands at an offset of a table. Of a section it reads the size and the address, never data or pads.
-pub fn step_at(table: &[u8], order: ByteOrder, at: usize) -> Step
-    ensures { result ≡ step_at order table.now at }
-{
-    let cut = fault(TABLE_CUT, at);
+    let cut = Err(Refusal::TableCut { place: at });
     if table.len() < at {
         return cut;
     }
@@ -90,12 +71,12 @@ pub fn step_at(table: &[u8], order: ByteOrder, at: usize) -> Step
     if room < 4 {
         return cut;
     }
-    let size = size_at(table, order, at) as usize;
+    let size = size_at(table, order, at);
     if size == 0 {
         if room == 4 {
-            return Step::End;
+            return Ok(None);
         }
-        return fault(BYTES_AFTER, at + 4);
+        return Err(Refusal::BytesAfter { place: at + 4 });
     }
     // Room for the header words first, then for data and pads: one test of the sum would make the walk slower.
     if room < 8 {
@@ -108,82 +89,56 @@ pub fn step_at(table: &[u8], order: ByteOrder, at: usize) -> Step
     }
     let address = address_at(table, order, at);
     if is_past_top(address, size) {
-        return fault(PAST_TOP, at);
+        return Err(Refusal::PastTop { place: at });
     }
     let next = start + padded;
-    Step::Section {
-        address: address,
-        size: size,
-        start: start,
-        next: next,
-    }
+    Ok(Some(Section {
+        address,
+        size: size as usize,
+        start,
+        next,
+    }))
 }
 
 // The walk step of a table that has no fault from the offset on: only the end is told from a section.
-pub fn whole_step(table: &[u8], order: ByteOrder, at: usize) -> Step
+pub fn whole_step(table: &[u8], order: ByteOrder, at: usize) -> Option<Section>
     requires { (read_on order table.now at).fault ≡ 0 }
-    ensures { result ≡ step_at order table.now at }
+    ensures { step_of (Ok result) ≡ step_at order table.now at }
 {
-    let size = size_at(table, order, at) as usize;
+    let size = size_at(table, order, at);
     if size == 0 {
-        return Step::End;
+        return None;
     }
     let start = at + 8;
     let address = address_at(table, order, at);
     let next = start + padded(size);
-    Step::Section {
+    Some(Section {
         address,
-        size,
+        size: size as usize,
         start,
         next,
-    }
-}
-
-fn misformed(number: u32, place: usize) -> Form
-    ensures { result ≡ misformed number place }
-{
-    Form {
-        number: number,
-        place: place,
-        sections: 0,
-        bytes: 0,
-    }
+    })
 }
 
 // The form of a table: its limit, and then its first fault in table order.
-pub fn form_of(table: &[u8], order: ByteOrder) -> Form
-    ensures { result ≡ form_of order table.now }
+pub fn form_of(table: &[u8], order: ByteOrder) -> Result<Counts, Refusal>
+    ensures { answer_of result ≡ form_of order table.now }
 {
     if TABLE_LIMIT < table.len() {
-        return misformed(TABLE_LONG, 0);
+        return Err(Refusal::TableLong);
     }
     if table.len() < 4 {
-        return misformed(TABLE_CUT, 0);
+        return Err(Refusal::TableCut { place: 0 });
     }
     let mut at: usize = 4;
     let mut sections: usize = 0;
     let mut bytes: usize = 0;
     loop {
-        let step = step_at(table, order, at);
-        let Step::Section {
-            address: _,
-            size,
-            start: _,
-            next,
-        } = step
-        else {
-            let Step::Fault { number, place } = step else {
-                return Form {
-                    number: 0,
-                    place: 0,
-                    sections: sections,
-                    bytes: bytes,
-                };
-            };
-            return misformed(number, place);
+        let Some(section) = step_at(table, order, at)? else {
+            return Ok(Counts { sections, bytes });
         };
         sections += 1;
-        bytes += size;
-        at = next;
+        bytes += section.size;
+        at = section.next;
     }
 }

@@ -6,10 +6,8 @@ use borrow.Author.Tests.{eq-eqb, ne_eqb, lt-ltb, le-ltb}
 use lib.ListN.{length}
 use Rattle.words.specs.declared.ByteOrder.{ByteOrder}
 use Rattle.words.specs.Refusal.{result_long_number, output_short_number}
-use Rattle.boot_table.specs.declared.Form.{Form}
-use Rattle.boot_table.specs.Form.{table_limit, form_of}
-use Rattle.joiner.specs.declared.Joined.{Joined}
-use Rattle.joiner.specs.Join.{joined_length, joined_over, join_refused, join_answer, join_output}
+use Rattle.boot_table.specs.Form.{Form, table_limit, form_of}
+use Rattle.joiner.specs.Join.{JoinAnswer, joined_length, joined_over, join_refused, join_answer, join_output}
 
 -- ---- each answer: f is the first table's form, g the second's
 
@@ -39,7 +37,7 @@ module _ (o : ByteOrder) (a b : List ℕ) (room : ℕ) (f : Form) (ef : f ≡ fo
 
 -- ---- the output, by the answer r
 
-module _ (o : ByteOrder) (a b out : List ℕ) (r : Joined) (e : r ≡ join_answer o a b (length out)) where
+module _ (o : ByteOrder) (a b out : List ℕ) (r : JoinAnswer) (e : r ≡ join_answer o a b (length out)) where
   pub output_kept : (r.number ≡ 0 → ⊥) → out ≡ join_output o a b out
   unfolding join_output
   output_kept n = rw (← e) (simp (ne_eqb _ _ n))

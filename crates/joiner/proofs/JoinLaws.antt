@@ -17,8 +17,7 @@ use Rattle.boot_table.specs.Form.{table_limit, form_of, WellFormed}
 use Rattle.boot_table.proofs.FormLaws.{form_well, well_form}
 use Rattle.boot_table.proofs.RoundTrip.{chunks_append, length_table, length_read, read_head, read_middle, read_zero}
 use Rattle.boot_table.proofs.RoundTrip.{read_table, entry_table, table_read, valid_read, all_append}
-use Rattle.joiner.specs.declared.Joined.{Joined}
-use Rattle.joiner.specs.Join.{joined, joined_length, section_bytes, join_answer, join_output}
+use Rattle.joiner.specs.Join.{JoinAnswer, joined, joined_length, section_bytes, join_answer, join_output}
 use Rattle.joiner.proofs.AnswerLaws.{first_refused, second_refused, join_long, output_short, join_done, output_kept, output_joined}
 
 -- ---- the join as a table
@@ -107,8 +106,8 @@ module _ (o : ByteOrder) (a b : List ℕ) (room : ℕ) where
       (λ g. absurd (never g (second_refused o a b room _ refl f _ refl g))))
       (λ f. absurd (never f (first_refused o a b room _ refl f)))
     where
-      never : {r : Joined} → (r.number ≡ 0 → ⊥) → r ≡ join_answer o a b room → ⊥
-      never n e = n (ap (λ (j : Joined). j.number) e ∙ z)
+      never : {r : JoinAnswer} → (r.number ≡ 0 → ⊥) → r ≡ join_answer o a b room → ⊥
+      never n e = n (ap (λ (j : JoinAnswer). j.number) e ∙ z)
 
 -- ---- what the output holds
 

@@ -11,11 +11,21 @@ use Rattle.words.specs.Header.{header_bytes}
 use Rattle.words.specs.Run.{over}
 use Rattle.words.proofs.HeaderLaws.{length_header}
 use Rattle.words.proofs.RunLaws.{over_front, over_over}
-use Rattle.boot_table.specs.Table.{entry_of}
+use Rattle.boot_table.specs.Table.{Section, entry_of, step_at, read_on}
 use Rattle.boot_table.specs.Form.{WellFormed}
+use Rattle.boot_table.proofs.StepLaws.{section_of}
+use Rattle.boot_table.proofs.ReadLaws.{read_room, read_next}
 use Rattle.boot_table.proofs.FormLaws.{well_long}
 use Rattle.joiner.specs.Join.{joined, joined_length, section_bytes, joined_over}
 use Rattle.joiner.proofs.JoinLaws.{length_joined, joined_parts}
+
+-- a turn that finds a section: it has bytes, and the table is whole behind it
+pub turn_whole : (o : ByteOrder) (t : List ℕ) (at address size start next : ℕ) → Section address size start next ≡ step_at o t at → (read_on o t at).fault ≡ 0
+    → ((read_on o t next).fault ≡ 0) × (at + 8 ≤ next) × (next + 4 ≤ length t)
+turn_whole o t at address size start next e whole =
+    let g = section_of o t at (sym e) in
+    let on = read_next o t at (sym e) whole in
+    (on, omega (arith, g.next_is), read_room o t next on)
 
 -- two parts of a table, one right behind the other
 part_part : (t : List ℕ) (at next : ℕ) → 4 ≤ at → at ≤ next → take (at - 4) (drop 4 t) ++ take (next - at) (drop at t) ≡ take (next - 4) (drop 4 t)

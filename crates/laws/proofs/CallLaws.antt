@@ -13,21 +13,19 @@ use Rattle.words.specs.Word.{Bytes}
 use Rattle.words.proofs.ChoiceLaws.{if_cases}
 use Rattle.boot_table.specs.Table.{Sect, reading}
 use Rattle.boot_table.specs.Form.{table_limit, form_of, WellFormed}
-use Rattle.loader.specs.declared.Answer.{Answer}
-use Rattle.loader.specs.Load.{load_answer, load_memory}
-use Rattle.joiner.specs.declared.Joined.{Joined}
-use Rattle.joiner.specs.Join.{joined_length, join_answer, join_output}
+use Rattle.loader.specs.Load.{Answer, load_answer, load_memory}
+use Rattle.joiner.specs.Join.{JoinAnswer, joined_length, join_answer, join_output}
 use Rattle.laws.specs.Calls.{join_in, turn_answers, three_answers, swap_of, rearranged_answers, both_ways}
 use Rattle.laws.specs.Demand3.{Joinable, Fitting, Joinable3, TwoSections, InTurn, Associative, Swapped}
 use Rattle.laws.specs.Rearranging.{RearrangedTable, LoadsAlike, JoinsAlike}
 use Rattle.laws.proofs.Theorem.{demand_3}
 use Rattle.laws.proofs.RearrangingProof.{any_order}
 
--- the join, loaded, against the two tables in turn
+-- the join, loaded, against the two tables in turn; the answers are in numbers, and n is how many bytes the join reported
 pub turn_calls : (o : ByteOrder) (m a b out whole turn : List ℕ) → Bytes a → Bytes b
-    → (j : Joined) (out' : List ℕ) (w f g : Answer) (whole' turn₁ turn' : List ℕ)
-    → j ≡ join_answer o a b (length out) → out' ≡ join_output o a b out
-    → w ≡ load_answer o m (take j.length out') (length whole) → whole' ≡ load_memory o m (take j.length out') whole
+    → (j : JoinAnswer) (n : ℕ) (out' : List ℕ) (w f g : Answer) (whole' turn₁ turn' : List ℕ)
+    → j ≡ join_answer o a b (length out) → n ≡ j.length → out' ≡ join_output o a b out
+    → w ≡ load_answer o m (take n out') (length whole) → whole' ≡ load_memory o m (take n out') whole
     → f ≡ load_answer o m a (length turn) → turn₁ ≡ load_memory o m a turn
     → g ≡ load_answer o m b (length turn₁) → turn' ≡ load_memory o m b turn₁
     → record {
@@ -39,8 +37,8 @@ pub turn_calls : (o : ByteOrder) (m a b out whole turn : List ℕ) → Bytes a �
           → InTurn o m a b out (record { joined = j; whole = w; first = f; second = g }) out' whole' turn';
     }
 unfolding join_in
-turn_calls o m a b out whole turn p q j out' w f g whole' turn₁ turn' ej eo ew e1 ef et eg eu =
-    rw (eu, eg, et, ef, e1, ew, eo, ej)
+turn_calls o m a b out whole turn p q j n out' w f g whole' turn₁ turn' ej en eo ew e1 ef et eg eu =
+    rw (eu, eg, et, ef, e1, ew, eo, en, ej)
     record {
       value = refl;
       output_after = refl;
@@ -49,13 +47,13 @@ turn_calls o m a b out whole turn p q j out' w f g whole' turn₁ turn' ej eo ew
       in_turn = λ sides fitting same. rw (← same) (demand_3.two_tables o a b out m whole p q sides fitting);
     }
 
--- three tables joined both ways
+-- three tables joined both ways; n and k are how many bytes the two inner joins reported
 pub three_calls : (o : ByteOrder) (a b c ab left bc right : List ℕ) → Bytes a → Bytes b → Bytes c
-    → (x l y r : Joined) (ab' left' bc' right' : List ℕ)
-    → x ≡ join_answer o a b (length ab) → ab' ≡ join_output o a b ab
-    → l ≡ join_answer o (take x.length ab') c (length left) → left' ≡ join_output o (take x.length ab') c left
-    → y ≡ join_answer o b c (length bc) → bc' ≡ join_output o b c bc
-    → r ≡ join_answer o a (take y.length bc') (length right) → right' ≡ join_output o a (take y.length bc') right
+    → (x l y r : JoinAnswer) (n k : ℕ) (ab' left' bc' right' : List ℕ)
+    → x ≡ join_answer o a b (length ab) → n ≡ x.length → ab' ≡ join_output o a b ab
+    → l ≡ join_answer o (take n ab') c (length left) → left' ≡ join_output o (take n ab') c left
+    → y ≡ join_answer o b c (length bc) → k ≡ y.length → bc' ≡ join_output o b c bc
+    → r ≡ join_answer o a (take k bc') (length right) → right' ≡ join_output o a (take k bc') right
     → record {
       value : record { ab = x; left = l; bc = y; right = r } ≡ three_answers o a b c ab left bc right;
       ab_after : ab' ≡ join_output o a b ab;
@@ -66,8 +64,8 @@ pub three_calls : (o : ByteOrder) (a b c ab left bc right : List ℕ) → Bytes 
           → Associative o a b c ab left bc right (record { ab = x; left = l; bc = y; right = r }) ab' left' bc' right';
     }
 unfolding join_in
-three_calls o a b c ab left bc right p q s x l y r ab' left' bc' right' ex eab el eleft ey ebc er eright =
-    rw (eright, er, ebc, ey, eleft, el, eab, ex)
+three_calls o a b c ab left bc right p q s x l y r n k ab' left' bc' right' ex en eab el eleft ey ek ebc er eright =
+    rw (eright, er, ebc, ek, ey, eleft, el, eab, en, ex)
     record {
       value = refl;
       ab_after = refl;
@@ -102,13 +100,13 @@ rearranged_calls o m t u mem other p a b mem' other' ea eo eb et =
         → LoadsAlike (reading o t).sections (rearranged_answers o m t u mem other) (load_memory o m t mem) (load_memory o m u other)
     any form is same = rw (← same) (any_order.loads o t u m mem form is)
 
--- two tables joined both ways, and both joins loaded
+-- two tables joined both ways, and both joins loaded; n and k are how many bytes the joins reported
 pub both_calls : (o : ByteOrder) (m a b ab ba mem other : List ℕ) → Bytes a → Bytes b
-    → (x y : Joined) (ab' ba' : List ℕ) (f g : Answer) (mem' other' : List ℕ)
-    → x ≡ join_answer o a b (length ab) → ab' ≡ join_output o a b ab
-    → y ≡ join_answer o b a (length ba) → ba' ≡ join_output o b a ba
-    → f ≡ load_answer o m (take x.length ab') (length mem) → mem' ≡ load_memory o m (take x.length ab') mem
-    → g ≡ load_answer o m (take y.length ba') (length other) → other' ≡ load_memory o m (take y.length ba') other
+    → (x y : JoinAnswer) (n k : ℕ) (ab' ba' : List ℕ) (f g : Answer) (mem' other' : List ℕ)
+    → x ≡ join_answer o a b (length ab) → n ≡ x.length → ab' ≡ join_output o a b ab
+    → y ≡ join_answer o b a (length ba) → k ≡ y.length → ba' ≡ join_output o b a ba
+    → f ≡ load_answer o m (take n ab') (length mem) → mem' ≡ load_memory o m (take n ab') mem
+    → g ≡ load_answer o m (take k ba') (length other) → other' ≡ load_memory o m (take k ba') other
     → record {
       value : record { ab = x; ba = y; ab_loaded = f; ba_loaded = g } ≡ both_ways o m a b ab ba mem other;
       ab_after : ab' ≡ join_output o a b ab;
@@ -119,8 +117,8 @@ pub both_calls : (o : ByteOrder) (m a b ab ba mem other : List ℕ) → Bytes a 
           → JoinsAlike o m a b ab ba (record { ab = x; ba = y; ab_loaded = f; ba_loaded = g }) ab' ba' mem' other';
     }
 unfolding join_in
-both_calls o m a b ab ba mem other p q x y ab' ba' f g mem' other' ex eab ey eba ef em eg eo =
-    rw (eo, eg, em, ef, eba, ey, eab, ex)
+both_calls o m a b ab ba mem other p q x y n k ab' ba' f g mem' other' ex en eab ey ek eba ef em eg eo =
+    rw (eo, eg, em, ef, eba, ek, ey, eab, en, ex)
     record {
       value = refl;
       ab_after = refl;
@@ -139,13 +137,13 @@ join_within o a b room =
     (λ f. if_cases within (ltb table_limit (joined_length a b)) _ _ (λ g. omega arith)
     (λ g. if_cases within (ltb room (joined_length a b)) _ _ (λ h. omega arith) (λ h. ltb-false room (joined_length a b) h))))
   where
-    within : Joined → Type 0
+    within : JoinAnswer → Type 0
     within r = r.length ≤ room
 
 -- so the output's first bytes, as many as a join reported, are a part of it
-module _ (o : ByteOrder) (a b out : List ℕ) (j : Joined) (out' : List ℕ) (answer : j ≡ join_answer o a b (length out)) (kept : length out' ≡ length out) where
-  pub part_within : j.length ≤ length out'
-  part_within = omega (arith, ap (λ (r : Joined). r.length) answer, join_within o a b (length out))
+module _ (o : ByteOrder) (a b out : List ℕ) (j : JoinAnswer) (n : ℕ) (out' : List ℕ) (answer : j ≡ join_answer o a b (length out)) (reported : n ≡ j.length) (kept : length out' ≡ length out) where
+  pub part_within : n ≤ length out'
+  part_within = omega (arith, reported, ap (λ (r : JoinAnswer). r.length) answer, join_within o a b (length out))
 
-  pub part_length : j.length ≡ length (take j.length out')
-  part_length = sym (length-take-le j.length out' part_within)
+  pub part_length : n ≡ length (take n out')
+  part_length = sym (length-take-le n out' part_within)

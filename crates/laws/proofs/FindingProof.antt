@@ -20,11 +20,9 @@ use Rattle.boot_table.proofs.MeaningLaws.{uncovered_none}
 use Rattle.loader.specs.Load.{load_memory, Accepted}
 use Rattle.loader.proofs.LoadLaws.{accepted_iff, length_load, loaded_at}
 use Rattle.loader.proofs.SameLaws.{covered_open}
-use Rattle.joiner.specs.declared.Joined.{Joined}
-use Rattle.joiner.specs.Join.{joined_length, join_refused, join_answer}
+use Rattle.joiner.specs.Join.{JoinAnswer, joined_length, join_refused, join_answer}
 use Rattle.joiner.proofs.AnswerLaws.{first_refused, second_refused, join_long, output_short, join_done}
-use Rattle.query.specs.declared.Found.{Found}
-use Rattle.query.specs.Find.{find_refused, find_answer, found_bytes}
+use Rattle.query.specs.Find.{FindAnswer, find_refused, find_answer, found_bytes}
 use Rattle.query.specs.Covering.{Says}
 use Rattle.query.proofs.FindLaws.{finding, fault_walked, well_walked, find_first, find_second}
 use Rattle.query.proofs.HitLaws.{covers_byte}
@@ -34,7 +32,7 @@ module _ (o : ByteOrder) (m older newer mem : List ℕ) (a : ℕ) (both : BothLo
   abbrev middle : List ℕ
   middle = load_memory o m older mem
 
-  abbrev answer : Found
+  abbrev answer : FindAnswer
   answer = find_answer o older newer a
 
   abbrev bytes : List ℕ
@@ -117,9 +115,9 @@ module _ (o : ByteOrder) (older newer : List ℕ) (a room : ℕ) where
   no_fault f g =
       by_cases (dec_le (joined_length older newer) table_limit)
       (λ h. by_cases (dec_le (joined_length older newer) room)
-      (λ k. ap (λ (r : Joined). r.which) (sym (join_done o older newer room _ refl f _ refl g h k)))
-      (λ k. ap (λ (r : Joined). r.which) (sym (output_short o older newer room _ refl f _ refl g h (omega arith)))))
-      (λ h. ap (λ (r : Joined). r.which) (sym (join_long o older newer room _ refl f _ refl g (omega arith))))
+      (λ k. ap (λ (r : JoinAnswer). r.which) (sym (join_done o older newer room _ refl f _ refl g h k)))
+      (λ k. ap (λ (r : JoinAnswer). r.which) (sym (output_short o older newer room _ refl f _ refl g h (omega arith)))))
+      (λ h. ap (λ (r : JoinAnswer). r.which) (sym (join_long o older newer room _ refl f _ refl g (omega arith))))
 
   find_joined : ((find_answer o older newer a).number ≡ 0 → ⊥)
       → join_answer o older newer room ≡ join_refused (find_answer o older newer a).number (find_answer o older newer a).place (find_answer o older newer a).table

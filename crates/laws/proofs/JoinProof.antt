@@ -12,8 +12,7 @@ use Rattle.boot_table.proofs.FormLaws.{well_long}
 use Rattle.loader.specs.Load.{load_answer, load_memory, Accepted}
 use Rattle.loader.proofs.LoadLaws.{accepted_iff}
 use Rattle.loader.proofs.AcceptLaws.{append_loads, append_memory, append_answer}
-use Rattle.joiner.specs.declared.Joined.{Joined}
-use Rattle.joiner.specs.Join.{joined, joined_length, join_answer, join_output}
+use Rattle.joiner.specs.Join.{JoinAnswer, joined, joined_length, join_answer, join_output}
 use Rattle.joiner.proofs.JoinLaws.{length_joined, reading_joined, entry_joined, bytes_joined, well_joined, joined_assoc}
 use Rattle.joiner.proofs.JoinLaws.{join_accepts, join_front, join_rest}
 use Rattle.laws.specs.Calls.{join_in, turn_answers, three_answers}
@@ -35,7 +34,7 @@ module _ (o : ByteOrder) (a b out : List ℕ) (p : Bytes a) (q : Bytes b) (j : J
   in_answer = join_accepts o a b (length out) j.first j.second j.fits j.room
 
   number_is : (join_answer o a b (length out)).number ≡ 0
-  number_is = ap (λ (r : Joined). r.number) in_answer
+  number_is = ap (λ (r : JoinAnswer). r.number) in_answer
 
   -- its output's first bytes are the join
   in_is : join_in o a b out ≡ joined o a b

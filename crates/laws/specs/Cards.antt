@@ -1,39 +1,34 @@
 -- The bench cards: one list, each card with every value that it names.
 use Rattle.std.specs.Prelude.{ℕ, ◌≡◌, List, [], ◌∷◌, ◌++◌, Bool, true, false, length, take, drop, replicate}
+use Rattle.std.specs.Prelude.{Result, Ok, Err}
+use Rattle.words.specs.declared.refusal.Refusal.{Refusal}
+use Rattle.words.specs.declared.refusal.Refusal.TheVariants.{StrapLong, StrapReserved}
 use Rattle.words.specs.declared.ByteOrder.{ByteOrder}
 use Rattle.words.specs.declared.ByteOrder.TheVariants.{HighFirst, LowFirst}
-use Rattle.loader.specs.declared.Answer.{Answer}
-use Rattle.loader.specs.Load.{load_answer, load_memory}
-use Rattle.joiner.specs.declared.Joined.{Joined}
-use Rattle.joiner.specs.Join.{join_answer, join_output}
+use Rattle.loader.specs.Load.{Answer, load_answer, load_memory}
+use Rattle.joiner.specs.Join.{JoinAnswer, join_answer, join_output}
 use Rattle.writer.specs.declared.Section.{Section}
-use Rattle.writer.specs.declared.Written.{Written}
-use Rattle.writer.specs.Write.{write_answer, write_output}
-use Rattle.query.specs.declared.Found.{Found}
-use Rattle.query.specs.Find.{find_answer, found_bytes}
-use Rattle.rescue.specs.declared.Rescued.{Rescued}
-use Rattle.rescue.specs.Rescue.{rescue_answer, rescue_output}
-use Rattle.boot_config.specs.declared.Configured.{Configured}
-use Rattle.boot_config.specs.Config.{config_answer, config_values}
+use Rattle.writer.specs.Write.{WriteAnswer, write_answer, write_output}
+use Rattle.query.specs.Find.{FindAnswer, find_answer, found_bytes}
+use Rattle.rescue.specs.Rescue.{RescueAnswer, rescue_answer, rescue_output}
+use Rattle.boot_config.specs.Config.{ConfigAnswer, config_answer, config_values}
 use Rattle.boot_strap.specs.declared.Manner.{Manner}
 use Rattle.boot_strap.specs.declared.Manner.TheVariants.{Strict, Lenient}
+use Rattle.boot_strap.specs.declared.Strap.{Strap}
 use Rattle.boot_strap.specs.declared.Strap.TheVariants.{Emif16, Spi}
-use Rattle.boot_strap.specs.declared.StrapAnswer.{StrapAnswer}
-use Rattle.boot_strap.specs.declared.StrapAnswer.TheVariants.{Decoded, Refused}
-use Rattle.boot_strap.specs.declared.SameAnswer.{SameAnswer}
-use Rattle.boot_strap.specs.declared.LabelAnswer.{LabelAnswer}
-use Rattle.boot_strap.specs.Strap.{decode_as, decode_short, same_answer, label_answer}
+use Rattle.boot_strap.specs.Strap.{decode_as, decode_short, answer_numbers, SameAnswer, same_answer, LabelAnswer, label_answer}
 
--- a card is a call, with the whole answer and all that the lent buffer holds afterwards; for finding, with the bytes of the part
+-- a card is a call, with the whole answer and all that the lent buffer holds afterwards; for finding, with the bytes of the part; and for decoding also with the answer in numbers
 pub data Card : Type 0 where
   Load : ByteOrder → (map table memory : List ℕ) → Answer → List ℕ → Card
-  Join : ByteOrder → (first second output : List ℕ) → Joined → List ℕ → Card
-  Write : ByteOrder → (entry : ℕ) → List Section → (bytes output : List ℕ) → Written → List ℕ → Card
-  Find : ByteOrder → (older newer : List ℕ) → (address : ℕ) → Found → List ℕ → Card
-  Rescue : ByteOrder → (table output : List ℕ) → Rescued → List ℕ → Card
-  Configure : (table addresses values : List ℕ) → Configured → List ℕ → Card
-  Decode : Manner → ℕ → StrapAnswer → Card
-  DecodeShort : ℕ → StrapAnswer → Card
+  Join : ByteOrder → (first second output : List ℕ) → JoinAnswer → List ℕ → Card
+  Write : ByteOrder → (entry : ℕ) → List Section → (bytes output : List ℕ) → WriteAnswer → List ℕ → Card
+  Find : ByteOrder → (older newer : List ℕ) → (address : ℕ) → FindAnswer → List ℕ → Card
+  Rescue : ByteOrder → (table output : List ℕ) → RescueAnswer → List ℕ → Card
+  Configure : (table addresses values : List ℕ) → ConfigAnswer → List ℕ → Card
+  Decode : Manner → ℕ → Result Strap Refusal → Card
+  DecodeShort : ℕ → Result Strap Refusal → Card
+  Numbers : Manner → ℕ → List ℕ → Card
   Same : (first second : ℕ) → SameAnswer → Card
   Label : ℕ → LabelAnswer → Card
 
@@ -47,6 +42,7 @@ Holds (Rescue order table output answer after) = (rescue_answer order table (len
 Holds (Configure table addresses values answer after) = (config_answer table addresses values ≡ answer) × (config_values table addresses values ≡ after)
 Holds (Decode manner value answer) = decode_as manner value ≡ answer
 Holds (DecodeShort value answer) = decode_short value ≡ answer
+Holds (Numbers manner value numbers) = answer_numbers (decode_as manner value) ≡ numbers
 Holds (Same first second answer) = same_answer first second ≡ answer
 Holds (Label value answer) = label_answer value ≡ answer
 
@@ -64,31 +60,31 @@ accept entry opens sections bytes =
 abbrev pub refuse : ℕ → ℕ → ℕ → Answer
 refuse number place address = record { number = number; place = place; address = address; entry = 0; entry_open = false; sections = 0; bytes = 0 }
 
-abbrev pub success : ℕ → ℕ → Joined
+abbrev pub success : ℕ → ℕ → JoinAnswer
 success n sections = record { number = 0; place = 0; which = 0; length = n; sections = sections }
 
-abbrev pub unjoined : ℕ → ℕ → ℕ → Joined
+abbrev pub unjoined : ℕ → ℕ → ℕ → JoinAnswer
 unjoined number place which = record { number = number; place = place; which = which; length = 0; sections = 0 }
 
-abbrev pub wrote : ℕ → ℕ → Written
+abbrev pub wrote : ℕ → ℕ → WriteAnswer
 wrote n sections = record { number = 0; place = 0; length = n; sections = sections }
 
-abbrev pub unwritten : ℕ → ℕ → Written
+abbrev pub unwritten : ℕ → ℕ → WriteAnswer
 unwritten number place = record { number = number; place = place; length = 0; sections = 0 }
 
-abbrev pub found : ℕ → ℕ → ℕ → ℕ → Found
+abbrev pub found : ℕ → ℕ → ℕ → ℕ → FindAnswer
 found table offset size read = record { number = 0; place = 0; table = table; offset = offset; length = size; read = read }
 
-abbrev pub unfound : ℕ → ℕ → ℕ → Found
+abbrev pub unfound : ℕ → ℕ → ℕ → FindAnswer
 unfound number place table = record { number = number; place = place; table = table; offset = 0; length = 0; read = 0 }
 
-abbrev pub saved : ℕ → ℕ → ℕ → Bool → Rescued
+abbrev pub saved : ℕ → ℕ → ℕ → Bool → RescueAnswer
 saved n sections unused added = record { number = 0; place = 0; length = n; sections = sections; unused = unused; added = added }
 
-abbrev pub unsaved : ℕ → Rescued
+abbrev pub unsaved : ℕ → RescueAnswer
 unsaved number = record { number = number; place = 0; length = 0; sections = 0; unused = 0; added = false }
 
-abbrev pub configured : ℕ → ℕ → Configured
+abbrev pub configured : ℕ → ℕ → ConfigAnswer
 configured entries bits = record { number = 0; place = 0; entries = entries; bits = bits }
 
 abbrev pub compared : ℕ → Bool → SameAnswer
@@ -354,35 +350,40 @@ cards =
     -- 10: the same register, set 1, clear 1
     Configure both_masks (0x02620000 ∷ []) (0x0000000F ∷ []) (configured 1 0) (0x0000000F ∷ []) ∷
     -- 11: strap 7878, through each strap call
-    Decode Strict 7878 (Decoded (Spi 3 true true 1 2 0)) ∷
-    Decode Lenient 7878 (Decoded (Spi 3 true true 1 2 0)) ∷
-    DecodeShort 7878 (Decoded (Spi 3 true true 1 2 0)) ∷
+    Decode Strict 7878 (Ok (Spi 3 true true 1 2 0)) ∷
+    Decode Lenient 7878 (Ok (Spi 3 true true 1 2 0)) ∷
+    DecodeShort 7878 (Ok (Spi 3 true true 1 2 0)) ∷
     Same 7878 7878 (compared 0 true) ∷
     Label 7878 (labelled 0 7) ∷
     -- 12: strap 160
-    Decode Strict 160 (Decoded (Emif16 0 true 0)) ∷
-    Decode Lenient 160 (Decoded (Emif16 0 true 0)) ∷
-    DecodeShort 160 (Decoded (Emif16 0 true 0)) ∷
+    Decode Strict 160 (Ok (Emif16 0 true 0)) ∷
+    Decode Lenient 160 (Ok (Emif16 0 true 0)) ∷
+    DecodeShort 160 (Ok (Emif16 0 true 0)) ∷
     Same 160 160 (compared 0 true) ∷
     Label 160 (labelled 0 1) ∷
     -- 12: 416, refused unless lenient is named; the comparison and the label name it
-    Decode Strict 416 (Refused 19 0) ∷
-    Decode Lenient 416 (Decoded (Emif16 0 true 0)) ∷
-    DecodeShort 416 (Refused 19 0) ∷
+    Decode Strict 416 (Err StrapReserved) ∷
+    Decode Lenient 416 (Ok (Emif16 0 true 0)) ∷
+    DecodeShort 416 (Err StrapReserved) ∷
+    Numbers Strict 416 (19 ∷ 0 ∷ []) ∷
     Same 416 160 (compared 0 true) ∷
     Same 160 416 (compared 0 true) ∷
     Label 416 (labelled 0 1) ∷
     -- 12: 64
-    Decode Strict 64 (Refused 19 0) ∷
-    Decode Lenient 64 (Refused 19 0) ∷
-    DecodeShort 64 (Refused 19 0) ∷
+    Decode Strict 64 (Err StrapReserved) ∷
+    Decode Lenient 64 (Err StrapReserved) ∷
+    DecodeShort 64 (Err StrapReserved) ∷
+    Numbers Strict 64 (19 ∷ 0 ∷ []) ∷
+    Numbers Lenient 64 (19 ∷ 0 ∷ []) ∷
     Same 64 160 (compared 19 false) ∷
     Same 160 64 (compared 19 false) ∷
     Label 64 (labelled 19 0) ∷
     -- 12: 8192
-    Decode Strict 8192 (Refused 18 0) ∷
-    Decode Lenient 8192 (Refused 18 0) ∷
-    DecodeShort 8192 (Refused 18 0) ∷
+    Decode Strict 8192 (Err StrapLong) ∷
+    Decode Lenient 8192 (Err StrapLong) ∷
+    DecodeShort 8192 (Err StrapLong) ∷
+    Numbers Strict 8192 (18 ∷ 0 ∷ []) ∷
+    Numbers Lenient 8192 (18 ∷ 0 ∷ []) ∷
     Same 8192 160 (compared 18 false) ∷
     Same 160 8192 (compared 18 false) ∷
     Same 8192 64 (compared 18 false) ∷

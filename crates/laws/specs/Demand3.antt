@@ -7,14 +7,9 @@ use Rattle.boot_table.specs.Table.{Sect, table_of, entry_of, reading}
 use Rattle.boot_table.specs.Form.{table_limit, WellFormed}
 use Rattle.boot_table.specs.Meaning.{covers, byte_for}
 use Rattle.one_write.specs.Once.{NoneInBoth}
-use Rattle.loader.specs.declared.Answer.{Answer}
-use Rattle.loader.specs.Load.{load_answer, load_memory}
-use Rattle.joiner.specs.declared.Joined.{Joined}
-use Rattle.joiner.specs.Join.{join_output}
-use Rattle.laws.specs.declared.TurnAnswers.{TurnAnswers}
-use Rattle.laws.specs.declared.ThreeAnswers.{ThreeAnswers}
-use Rattle.laws.specs.declared.RearrangedAnswers.{RearrangedAnswers}
-use Rattle.laws.specs.Calls.{join_in, turn_answers, three_answers, swap_of, rearranged_answers}
+use Rattle.loader.specs.Load.{Answer, load_answer, load_memory}
+use Rattle.joiner.specs.Join.{JoinAnswer, join_output}
+use Rattle.laws.specs.Calls.{join_in, TurnAnswers, turn_answers, ThreeAnswers, three_answers, swap_of, RearrangedAnswers, rearranged_answers}
 
 -- ---- the demand's terms
 
@@ -59,7 +54,7 @@ pub record TwoSections (o : ByteOrder) (t m mem : List ℕ) (x y : Sect) : Type 
 -- ---- results, of the answers r and of what the lent buffers hold after the calls (written with a prime)
 
 -- A was joined with B
-pub record IsJoin (o : ByteOrder) (a b out : List ℕ) (r : Joined) (out' : List ℕ) : Type 0 where
+pub record IsJoin (o : ByteOrder) (a b out : List ℕ) (r : JoinAnswer) (out' : List ℕ) : Type 0 where
   -- the call succeeds, and the join's length and count are document 01's
   pub answer : r
       ≡ record {

@@ -8,12 +8,9 @@ use Rattle.boot_table.specs.Table.{Sect, entry_of, reading}
 use Rattle.boot_table.specs.Form.{total, WellFormed}
 use Rattle.boot_table.specs.Meaning.{covers, times}
 use Rattle.boot_table.specs.Valid.{All}
-use Rattle.loader.specs.declared.Answer.{Answer}
-use Rattle.loader.specs.Load.{load_memory}
+use Rattle.loader.specs.Load.{Answer, load_memory}
 use Rattle.joiner.specs.Join.{join_output}
-use Rattle.laws.specs.declared.RearrangedAnswers.{RearrangedAnswers}
-use Rattle.laws.specs.declared.BothWays.{BothWays}
-use Rattle.laws.specs.Calls.{join_in, rearranged_of, rearranged_answers, both_ways}
+use Rattle.laws.specs.Calls.{join_in, rearranged_of, RearrangedAnswers, rearranged_answers, BothWays, both_ways}
 use Rattle.laws.specs.Demand3.{IsAccepted, Joinable, IsJoin}
 
 -- ---- the request's terms

@@ -5,50 +5,59 @@ ghost use Rattle.std.specs.Prelude.{◌≡◌};
 ghost use Rattle.boot_table.specs.Table.{Sect, reading};
 ghost use Rattle.boot_table.specs.Form.{WellFormed};
 ghost use Rattle.loader.specs.Load.{load_memory};
-ghost use Rattle.joiner.specs.Join.{join_output};
-ghost use Rattle.laws.specs.Calls.{join_in, turn_answers, three_answers, swap_of, rearranged_answers, both_ways};
+ghost use Rattle.joiner.specs.Join.{join_output, answer_of};
+ghost use Rattle.laws.specs.Calls.{join_in, swap_of, turn_answers, turn_answers_of, three_answers, three_answers_of};
+ghost use Rattle.laws.specs.Calls.{rearranged_answers, rearranged_answers_of, both_ways, both_ways_of};
 ghost use Rattle.laws.specs.Demand3.{Joinable, Fitting, Joinable3, TwoSections, InTurn, Associative, Swapped};
 ghost use Rattle.laws.specs.Rearranging.{RearrangedTable, LoadsAlike, JoinsAlike};
 
-use joiner::{Joined, join};
-use loader::{Answer, load};
-use words::ByteOrder;
+use joiner::{JoinRefusal, Joined, join};
+use loader::{Summary, load};
+use words::{ByteOrder, Refusal};
 
 // The answers of a join, of loading it, and of loading its two tables in turn.
-#[derive(Clone, Copy)]
+#[derive(Clone, Copy, Debug, PartialEq, Eq)]
 pub struct TurnAnswers {
-    pub joined: Joined,
-    pub whole: Answer,
-    pub first: Answer,
-    pub second: Answer,
+    pub joined: Result<Joined, JoinRefusal>,
+    pub whole: Result<Summary, Refusal>,
+    pub first: Result<Summary, Refusal>,
+    pub second: Result<Summary, Refusal>,
 }
 
 // The answers of the four joins that join three tables both ways: A with B, that with C; B with C, A with that.
-#[derive(Clone, Copy)]
+#[derive(Clone, Copy, Debug, PartialEq, Eq)]
 pub struct ThreeAnswers {
-    pub ab: Joined,
-    pub left: Joined,
-    pub bc: Joined,
-    pub right: Joined,
+    pub ab: Result<Joined, JoinRefusal>,
+    pub left: Result<Joined, JoinRefusal>,
+    pub bc: Result<Joined, JoinRefusal>,
+    pub right: Result<Joined, JoinRefusal>,
 }
 
 // The answers of loading a table, and the table with its sections rearranged.
-#[derive(Clone, Copy)]
+#[derive(Clone, Copy, Debug, PartialEq, Eq)]
 pub struct RearrangedAnswers {
-    pub original: Answer,
-    pub rearranged: Answer,
+    pub original: Result<Summary, Refusal>,
+    pub rearranged: Result<Summary, Refusal>,
 }
 
 // The answers of joining two tables both ways, and of loading each join.
-#[derive(Clone, Copy)]
+#[derive(Clone, Copy, Debug, PartialEq, Eq)]
 pub struct BothWays {
-    pub ab: Joined,
-    pub ba: Joined,
-    pub ab_loaded: Answer,
-    pub ba_loaded: Answer,
+    pub ab: Result<Joined, JoinRefusal>,
+    pub ba: Result<Joined, JoinRefusal>,
+    pub ab_loaded: Result<Summary, Refusal>,
+    pub ba_loaded: Result<Summary, Refusal>,
+}
+
+// How many bytes of an output are the join: none where it is refused.
+fn reported(joined: Result<Joined, JoinRefusal>) -> usize
+    ensures { result ≡ (answer_of joined).length }
+{
+    joined.map_or(0, |join| join.length)
 }
 
 // Joins two tables and loads the join into one memory, and loads the two in turn into another.
+#[tactic(auto, using(crate::proofs::CallLaws::part_length))]
 pub fn join_and_load(
     map: &[u8],
     first: &[u8],
@@ -58,7 +67,7 @@ pub fn join_and_load(
     join_memory: &mut [u8],
     turn_memory: &mut [u8],
 ) -> TurnAnswers
-    ensures value { result ≡ turn_answers order map.now first.now second.now output.old
+    ensures value { turn_answers_of result ≡ turn_answers order map.now first.now second.now output.old
         join_memory.old turn_memory.old }
     ensures output_after { output.new ≡ join_output order first.now second.now output.old }
     ensures join_memory_after { join_memory.new
@@ -68,23 +77,23 @@ pub fn join_and_load(
     ensures in_turn { Joinable order first.now second.now output.old
         → Fitting map.now join_memory.old
         → join_memory.old ≡ turn_memory.old
-        → InTurn order map.now first.now second.now output.old result
+        → InTurn order map.now first.now second.now output.old (turn_answers_of result)
         output.new join_memory.new turn_memory.new }
 {
     let joined = join(first, second, order, output);
-    let n = joined.length;
-    let whole = load(map, &output[..n], order, join_memory);
+    let whole = load(map, &output[..reported(joined)], order, join_memory);
     let loaded_first = load(map, first, order, turn_memory);
     let loaded_second = load(map, second, order, turn_memory);
     TurnAnswers {
-        joined: joined,
-        whole: whole,
+        joined,
+        whole,
         first: loaded_first,
         second: loaded_second,
     }
 }
 
 // Joins three tables both ways: the first two and then the third, and the first with the join of the last two.
+#[tactic(auto, using(crate::proofs::CallLaws::part_length))]
 pub fn join_three(
     first: &[u8],
     second: &[u8],
@@ -95,7 +104,7 @@ pub fn join_three(
     bc: &mut [u8],
     right: &mut [u8],
 ) -> ThreeAnswers
-    ensures value { result ≡ three_answers order first.now second.now third.now
+    ensures value { three_answers_of result ≡ three_answers order first.now second.now third.now
         ab.old left.old bc.old right.old }
     ensures ab_after { ab.new ≡ join_output order first.now second.now ab.old }
     ensures left_after { left.new
@@ -106,15 +115,13 @@ pub fn join_three(
     ensures associative { Joinable3 order first.now second.now third.now
         ab.old left.old bc.old right.old
         → Associative order first.now second.now third.now
-        ab.old left.old bc.old right.old result
+        ab.old left.old bc.old right.old (three_answers_of result)
         ab.new left.new bc.new right.new }
 {
     let joined_ab = join(first, second, order, ab);
-    let n = joined_ab.length;
-    let joined_left = join(&ab[..n], third, order, left);
+    let joined_left = join(&ab[..reported(joined_ab)], third, order, left);
     let joined_bc = join(second, third, order, bc);
-    let k = joined_bc.length;
-    let joined_right = join(first, &bc[..k], order, right);
+    let joined_right = join(first, &bc[..reported(joined_bc)], order, right);
     ThreeAnswers {
         ab: joined_ab,
         left: joined_left,
@@ -132,18 +139,18 @@ pub fn load_rearranged(
     original_memory: &mut [u8],
     rearranged_memory: &mut [u8],
 ) -> RearrangedAnswers
-    ensures value { result ≡ rearranged_answers order map.now original.now rearranged.now
+    ensures value { rearranged_answers_of result ≡ rearranged_answers order map.now original.now rearranged.now
         original_memory.old rearranged_memory.old }
     ensures original_memory_after { original_memory.new ≡ load_memory order map.now original.now original_memory.old }
     ensures rearranged_memory_after { rearranged_memory.new ≡ load_memory order map.now rearranged.now rearranged_memory.old }
     ensures swapped { (x y : Sect) → TwoSections order original.now map.now original_memory.old x y
         → rearranged.now ≡ swap_of order original.now x y
         → original_memory.old ≡ rearranged_memory.old
-        → Swapped x y result original_memory.new rearranged_memory.new }
+        → Swapped x y (rearranged_answers_of result) original_memory.new rearranged_memory.new }
     ensures loads_alike { WellFormed order original.now
         → RearrangedTable order original.now rearranged.now
         → original_memory.old ≡ rearranged_memory.old
-        → LoadsAlike (reading order original.now).sections result original_memory.new rearranged_memory.new }
+        → LoadsAlike (reading order original.now).sections (rearranged_answers_of result) original_memory.new rearranged_memory.new }
 {
     let loaded_original = load(map, original, order, original_memory);
     let loaded_rearranged = load(map, rearranged, order, rearranged_memory);
@@ -154,6 +161,7 @@ pub fn load_rearranged(
 }
 
 // Joins two tables, and joins them the other way round, and loads each join into a memory of its own.
+#[tactic(auto, using(crate::proofs::CallLaws::part_length))]
 pub fn join_both_ways(
     map: &[u8],
     first: &[u8],
@@ -164,7 +172,7 @@ pub fn join_both_ways(
     ab_memory: &mut [u8],
     ba_memory: &mut [u8],
 ) -> BothWays
-    ensures value { result ≡ both_ways order map.now first.now second.now ab.old ba.old
+    ensures value { both_ways_of result ≡ both_ways order map.now first.now second.now ab.old ba.old
         ab_memory.old ba_memory.old }
     ensures ab_after { ab.new ≡ join_output order first.now second.now ab.old }
     ensures ba_after { ba.new ≡ join_output order second.now first.now ba.old }
@@ -175,15 +183,13 @@ pub fn join_both_ways(
     ensures joins_alike { Joinable order first.now second.now ab.old
         → Joinable order second.now first.now ba.old
         → ab_memory.old ≡ ba_memory.old
-        → JoinsAlike order map.now first.now second.now ab.old ba.old result
+        → JoinsAlike order map.now first.now second.now ab.old ba.old (both_ways_of result)
         ab.new ba.new ab_memory.new ba_memory.new }
 {
     let joined_ab = join(first, second, order, ab);
     let joined_ba = join(second, first, order, ba);
-    let n = joined_ab.length;
-    let loaded_ab = load(map, &ab[..n], order, ab_memory);
-    let k = joined_ba.length;
-    let loaded_ba = load(map, &ba[..k], order, ba_memory);
+    let loaded_ab = load(map, &ab[..reported(joined_ab)], order, ab_memory);
+    let loaded_ba = load(map, &ba[..reported(joined_ba)], order, ba_memory);
     BothWays {
         ab: joined_ab,
         ba: joined_ba,

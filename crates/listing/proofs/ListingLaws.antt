@@ -13,10 +13,8 @@ use lib.Dec.{ltb}
 use Rattle.words.specs.declared.ByteOrder.{ByteOrder}
 use Rattle.words.proofs.ChoiceLaws.{if_cases}
 use Rattle.words.proofs.RunLaws.{over_front}
-use Rattle.boot_table.specs.declared.Form.{Form}
-use Rattle.boot_table.specs.declared.Step.TheVariants.{Section, End}
-use Rattle.boot_table.specs.Table.{entry_of, Sect, reading, read_on, step_at, section_at, before}
-use Rattle.boot_table.specs.Form.{total, form_of, WellFormed}
+use Rattle.boot_table.specs.Table.{Section, End, entry_of, Sect, reading, read_on, step_at, section_at, before}
+use Rattle.boot_table.specs.Form.{Form, total, form_of, WellFormed}
 use Rattle.boot_table.proofs.StepLaws.{section_of, length_body}
 use Rattle.boot_table.proofs.ReadLaws.{read_section, read_end}
 use Rattle.boot_table.proofs.FormLaws.{form_well, well_form, well_few, well_sections, form_placed}

@@ -8,7 +8,7 @@ ghost use Rattle.boot_table.specs.Form.{WellFormed};
 ghost use Rattle.listing.specs.Text.{digit_of, hex_text, decimal_text};
 ghost use Rattle.listing.specs.Listing.{entry_line, section_line, end_line, refused_line, section_lines, list_length, list_output};
 
-use boot_table::{Step, entry_of, form_of, step_at};
+use boot_table::{entry_of, form_of, whole_step};
 use words::{ByteOrder, copy};
 
 const LIST_LIMIT: usize = 65_536;
@@ -30,7 +30,11 @@ fn digit(d: u32) -> u8
     requires { d < 16 }
     ensures { result ≡ digit_of d }
 {
-    if d < 10 { 48 + d as u8 } else { 87 + d as u8 }
+    if d < 10 {
+        b'0' + d as u8
+    } else {
+        b'a' + (d - 10) as u8
+    }
 }
 
 // Writes a word as eight hexadecimal digits.
@@ -126,18 +130,11 @@ fn put_sections(table: &[u8], order: ByteOrder, buffer: &mut [u8], from: usize) 
     let mut at: usize = 4;
     let mut to = from;
     loop {
-        let step = step_at(table, order, at);
-        let Step::Section {
-            address,
-            size,
-            start: _,
-            next,
-        } = step
-        else {
+        let Some(section) = whole_step(table, order, at) else {
             return to;
         };
-        to = put_section(buffer, to, address, size);
-        at = next;
+        to = put_section(buffer, to, section.address, section.size);
+        at = section.next;
     }
 }
 
@@ -155,11 +152,12 @@ pub fn list(table: &[u8], order: ByteOrder, buffer: &mut [u8]) -> usize
     if buffer.len() < 32 + 2 * table.len() {
         return 0;
     }
-    let form = form_of(table, order);
-    if form.number != 0 {
-        return put_refused(buffer, 0, form.number as usize, form.place);
+    match form_of(table, order) {
+        Err(refusal) => put_refused(buffer, 0, refusal.number() as usize, refusal.place()),
+        Ok(counts) => {
+            let a = put_entry(buffer, 0, entry_of(table, order));
+            let b = put_sections(table, order, buffer, a);
+            put_end(buffer, b, counts.sections, counts.bytes)
+        }
     }
-    let a = put_entry(buffer, 0, entry_of(table, order));
-    let b = put_sections(table, order, buffer, a);
-    put_end(buffer, b, form.sections, form.bytes)
 }

@@ -18,8 +18,7 @@ use Rattle.boot_table.proofs.RoundTrip.{all_append, all_parts}
 use Rattle.one_write.specs.Once.{NoneInBoth, StoresOnce}
 use Rattle.one_write.proofs.OnceLaws.{once_append}
 use Rattle.loader.specs.Store.{store_all}
-use Rattle.loader.specs.declared.Answer.{Answer}
-use Rattle.loader.specs.Load.{accepted, once_answer, map_rule, load_answer, load_memory, Opens, Accepted}
+use Rattle.loader.specs.Load.{Answer, accepted, once_answer, map_rule, load_answer, load_memory, Opens, Accepted}
 use Rattle.loader.proofs.StoreLaws.{store_all_append}
 use Rattle.loader.proofs.SameLaws.{same_memory}
 use Rattle.loader.proofs.RuleLaws.{same_number, opens_rule, rule_number}

@@ -10,22 +10,22 @@ use borrow.Author.Tests.{eq-eqb, ne_eqb}
 use lib.ListN.{length}
 use Rattle.words.specs.declared.ByteOrder.{ByteOrder}
 use Rattle.words.specs.Refusal.{memory_length_number, stored_twice_number}
-use Rattle.region_map.specs.Map.{map_answer, memory_size, is_open}
-use Rattle.region_map.specs.declared.MapAnswer.{MapAnswer}
+use Rattle.region_map.specs.Map.{MapAnswer, map_answer, memory_size, is_open}
 use Rattle.region_map.proofs.FaultLaws.{answer_sound, sound_answer}
 use Rattle.boot_table.specs.Table.{entry_of, reading}
-use Rattle.boot_table.specs.declared.Form.{Form}
-use Rattle.boot_table.specs.Form.{total, formed, form_of, WellFormed}
+use Rattle.boot_table.specs.Form.{Form, total, formed, form_of, WellFormed}
 use Rattle.boot_table.proofs.FormLaws.{form_well, well_form}
 use Rattle.boot_table.specs.Valid.{All}
-use Rattle.one_write.specs.declared.Repeat.{Repeat}
-use Rattle.one_write.specs.declared.Repeat.TheVariants.{Nowhere, At}
 use Rattle.one_write.specs.Once.{repeat_from, first_repeat, StoresOnce}
 use Rattle.one_write.proofs.OnceLaws.{nowhere_iff}
-use Rattle.loader.specs.declared.Answer.{Answer}
 use Rattle.loader.specs.Store.{store_all}
-use Rattle.loader.specs.Load.{refused, accepted, on_repeat, once_answer, map_rule, form_first, open_answer, table_answer, judge_answer, load_answer, load_memory, Opens}
+use Rattle.words.specs.declared.refusal.Refusal.{Refusal}
+use Rattle.words.proofs.RefusalLaws.{same_refusal, number_some}
+use Rattle.loader.specs.declared.Summary.{Summary}
+use Rattle.loader.specs.Judging.{once_result}
+use Rattle.loader.specs.Load.{answer_of, Answer, refused, accepted, on_repeat, once_answer, map_rule, form_first, open_answer, table_answer, judge_answer, load_answer, load_memory, Opens}
 use Rattle.loader.proofs.RuleLaws.{same_number, opens_rule, rule_opens, rule_refused}
+use Rattle.std.specs.Prelude.{⊤, Result, Ok, Err, Option, None, Some}
 
 -- ---- the form goes first, by its number
 
@@ -65,11 +65,6 @@ module _ (o : ByteOrder) (m t : List ℕ) where
   pub open_judged : (f : Form) → f ≡ form_of o t → f.number ≡ 0 → map_rule m (accepted o m t) 4 (reading o t).sections ≡ open_answer o m t
   unfolding open_answer
   open_judged f e z = first_later o t (map_rule m (accepted o m t) 4 (reading o t).sections) f e z
-
-  -- the map rule's answer, where the form goes first
-  pub open_then : (later : Answer) → later ≡ map_rule m (accepted o m t) 4 (reading o t).sections → form_first o t later ≡ open_answer o m t
-  unfolding open_answer
-  open_then later e = rw e
 
   module _ (room : ℕ) (j : MapAnswer) (e : j ≡ map_answer m) where
     pub load_refused : (j.number ≡ 0 → ⊥) → refused j.number j.place ≡ load_answer o m t room
@@ -125,9 +120,9 @@ pub once_only : (o : ByteOrder) (m t : List ℕ) → (once_answer o m t).number 
 unfolding once_answer first_repeat
 once_only o m t z = (nowhere_iff m 4 (reading o t).sections).0 (go (repeat_from m 4 [] (reading o t).sections) z)
   where
-    go : (r : Repeat) → (on_repeat (accepted o m t) r).number ≡ 0 → r ≡ Nowhere
-    go Nowhere e = refl
-    go (At at) e = absurd (omega arith)
+    go : (r : Option ℕ) → (on_repeat (accepted o m t) r).number ≡ 0 → r ≡ None
+    go None e = refl
+    go (Some at) e = absurd (omega arith)
 
 pub once_if : (o : ByteOrder) (m t : List ℕ) → StoresOnce m (reading o t).sections → once_answer o m t ≡ accepted o m t
 unfolding once_answer first_repeat
@@ -138,9 +133,9 @@ pub once_number : (o : ByteOrder) (m t : List ℕ) → ((once_answer o m t).numb
 unfolding once_answer accepted
 once_number o m t = go (first_repeat o m t)
   where
-    go : (r : Repeat) → ((on_repeat (accepted o m t) r).number ≡ 0) ⊎ ((on_repeat (accepted o m t) r).number ≡ stored_twice_number)
-    go Nowhere = inl refl
-    go (At at) = inr refl
+    go : (r : Option ℕ) → ((on_repeat (accepted o m t) r).number ≡ 0) ⊎ ((on_repeat (accepted o m t) r).number ≡ stored_twice_number)
+    go None = inl refl
+    go (Some at) = inr refl
 
 -- under a sound map a table is accepted exactly where it is well-formed, keeps the map rule, and stores no address of kind 3 twice
 pub table_only : (o : ByteOrder) (m t : List ℕ) → (table_answer o m t).number ≡ 0
@@ -200,3 +195,24 @@ module _ (o : ByteOrder) (m t : List ℕ) (r : Answer) (e : r ≡ open_answer o 
         (e ∙ sym (open_judged o m t (form_of o t) refl form_zero) ∙ opens_rule m (accepted o m t) 4 opens)
         ∙ sym (opens_rule m (once_answer o m t) 4 opens)
         ∙ form_judged o m t (form_of o t) refl form_zero
+
+-- ---- the rule of one write, as the code answers it
+
+-- a later answer, or the refusal before it
+abbrev pub told : Answer → Result ⊤ Refusal → Answer
+told later (Ok u) = later
+told later (Err refusal) = answer_of (Err refusal)
+
+pub once_told : (later : Answer) (f : Option ℕ) → told later (once_result f) ≡ on_repeat later f
+once_told later None = refl
+once_told later (Some at) = refl
+
+-- ---- the numbers tell the answer
+
+-- answers of the code that come to the same numbers are the same
+pub answer_inj : (a b : Result Summary Refusal) → answer_of a ≡ answer_of b → a ≡ b
+answer_inj (Ok s) (Ok t) e = ap Ok (ap (λ (r : Answer). record { entry = r.entry; entry_open = r.entry_open; sections = r.sections; bytes = r.bytes }) e)
+answer_inj (Ok s) (Err r) e = absurd (number_some r (sym (ap (λ (r : Answer). r.number) e)))
+answer_inj (Err q) (Ok t) e = absurd (number_some q (ap (λ (r : Answer). r.number) e))
+answer_inj (Err q) (Err r) e =
+    ap Err (same_refusal q r (ap (λ (r : Answer). r.number) e) (ap (λ (r : Answer). r.place) e) (ap (λ (r : Answer). r.address) e))

@@ -4,7 +4,7 @@ use mathlib.Core.Logic.{◌≢◌, ◌↔◌, by_cases}
 use mathlib.Core.List.{List, [], ◌∷◌}
 use mathlib.Core.Bool.{true, false, not}
 use mathlib.Core.Option
-use mathlib.Core.Option.{Option, none, some}
+use mathlib.Core.Option.{Option as Maybe, none, some}
 use Prim.Native.Nat.{ℕ, ◌<◌}
 use native.Mathlib.Decide.{ℕ_discrete}
 use native.Mathlib.Omega.{arith}
@@ -14,23 +14,20 @@ use Rattle.words.specs.declared.ByteOrder.{ByteOrder}
 use Rattle.words.specs.Choice.{if}
 use Rattle.words.specs.Refusal.{memory_length_number, not_open_number, stored_twice_number}
 use Rattle.words.proofs.ChoiceLaws.{if_both}
-use Rattle.region_map.specs.Map.{count, one_write, map_answer, memory_size, is_open, closed_from, place_of}
-use Rattle.region_map.specs.declared.MapAnswer.{MapAnswer}
+use Rattle.region_map.specs.Map.{MapAnswer, count, one_write, map_answer, memory_size, is_open, closed_from, place_of}
 use Rattle.region_map.proofs.FaultLaws.{answer_sound, sound_answer}
 use Rattle.region_map.proofs.OnceLaws.{plain_once}
 use Rattle.boot_table.specs.Table.{Sect, next_of, reading}
 use Rattle.boot_table.specs.Form.{form_of}
 use Rattle.boot_table.specs.Meaning.{last_byte}
-use Rattle.one_write.specs.declared.Repeat.{Repeat}
-use Rattle.one_write.specs.declared.Repeat.TheVariants.{Nowhere, At}
 use Rattle.one_write.specs.Once.{first_repeat}
 use Rattle.one_write.proofs.OnceLaws.{plain_nowhere}
-use Rattle.loader.specs.declared.Answer.{Answer}
 use Rattle.loader.specs.Store.{store_all}
-use Rattle.loader.specs.Load.{refused, on_closed, accepted, on_repeat, once_answer, map_rule, form_first, open_answer, table_answer, map_first, judge_answer, load_answer, load_memory, Accepted}
+use Rattle.loader.specs.Load.{Answer, refused, on_closed, accepted, on_repeat, once_answer, map_rule, form_first, open_answer, table_answer, map_first, judge_answer, load_answer, load_memory, Accepted}
 use Rattle.loader.proofs.StoreLaws.{length_store_all, store_all_at, store_all_miss}
 use Rattle.loader.proofs.RuleLaws.{same_number}
 use Rattle.loader.proofs.AnswerLaws.{map_refused, map_judged, load_refused, load_sized, load_judged, memory_kept, memory_stored, table_only, table_if}
+use Rattle.std.specs.Prelude.{Option, None, Some}
 
 -- ---- acceptance
 
@@ -63,7 +60,7 @@ module _ (o : ByteOrder) (m t : List ℕ) (room : ℕ) where
 -- the answers are those by the map, the memory, the form and the map rule: the rule of one write adds none. The `plain-..` laws of
 -- region_map are the other half: what such a map opens and where its bytes stand goes by kind 1 alone. So nothing changes from before
 module _ (o : ByteOrder) (m t : List ℕ) (plain : (i : ℕ) → i < count m → one_write m i ≡ false) where
-  plain_repeat : first_repeat o m t ≡ Nowhere
+  plain_repeat : first_repeat o m t ≡ None
   unfolding first_repeat
   plain_repeat = plain_nowhere m (plain_once m plain) 4 (reading o t).sections
 
@@ -101,7 +98,7 @@ Fair r = (r.number ≡ 0 → ⊥) → Blank r
 fair_refused : (number place : ℕ) → Fair (refused number place)
 fair_refused number place n = record { address = λ h. refl; entry = refl; entry_open = refl; sections = refl; bytes = refl }
 
-fair_closed : (at : ℕ) (later : Answer) (c : Option ℕ) → Fair later → Fair (on_closed at later c)
+fair_closed : (at : ℕ) (later : Answer) (c : Maybe ℕ) → Fair later → Fair (on_closed at later c)
 fair_closed at later none f = f
 fair_closed at later (some a) f = λ n. record { address = λ h. absurd (h refl); entry = refl; entry_open = refl; sections = refl; bytes = refl }
 
@@ -111,9 +108,9 @@ fair_rule m fine at [] f = f
 fair_rule m fine at (s ∷ ss) f =
     fair_closed at (map_rule m fine (next_of at (length s.body)) ss) (closed_from m (length s.body) s.address) (fair_rule m fine (next_of at (length s.body)) ss f)
 
-fair_repeat : (later : Answer) (r : Repeat) → Fair later → Fair (on_repeat later r)
-fair_repeat later Nowhere f = f
-fair_repeat later (At at) f = fair_refused stored_twice_number at
+fair_repeat : (later : Answer) (r : Option ℕ) → Fair later → Fair (on_repeat later r)
+fair_repeat later None f = f
+fair_repeat later (Some at) f = fair_refused stored_twice_number at
 
 fair_table : (o : ByteOrder) (m t : List ℕ) → Fair (table_answer o m t)
 unfolding table_answer form_first once_answer accepted

@@ -11,9 +11,8 @@ use Rattle.boot_table.specs.Pads.{DifferInPads, bare}
 use Rattle.boot_table.proofs.PadLaws.{by_bare, total_bare, pads_entry, pads_sections, pads_form}
 use Rattle.one_write.specs.Once.{repeat_from, first_repeat}
 use Rattle.one_write.proofs.OnceLaws.{repeat_bare}
-use Rattle.loader.specs.declared.Answer.{Answer}
 use Rattle.loader.specs.Store.{store_bytes, store_all}
-use Rattle.loader.specs.Load.{on_closed, accepted, once_answer, map_rule, form_first, table_answer, judge_answer, load_answer, load_memory}
+use Rattle.loader.specs.Load.{Answer, on_closed, accepted, once_answer, map_rule, form_first, table_answer, judge_answer, load_answer, load_memory}
 
 -- ---- the rule and storing do not look at pads
 

@@ -10,8 +10,7 @@ use Rattle.words.specs.declared.ByteOrder.{ByteOrder}
 use Rattle.words.specs.Refusal.{not_open_number}
 use Rattle.region_map.specs.Map.{closed_from}
 use Rattle.region_map.proofs.OpenLaws.{open_each, each_open}
-use Rattle.boot_table.specs.declared.Step.TheVariants.{Section, End}
-use Rattle.boot_table.specs.Table.{Sect, Reading, next_of, step_at, section_at, before, read_on, reading}
+use Rattle.boot_table.specs.Table.{Section, End, Sect, Reading, next_of, step_at, section_at, before, read_on, reading}
 use Rattle.boot_table.proofs.StepLaws.{section_of, length_body, next_at}
 use Rattle.boot_table.proofs.ReadLaws.{read_section, read_end, read_begins}
 use Rattle.boot_table.proofs.FormLaws.{form_section}
@@ -20,8 +19,7 @@ use Rattle.boot_table.proofs.MeaningLaws.{covers_true, covers_in}
 use Rattle.loader.specs.declared.judging.Stretch.{Stretch}
 use Rattle.loader.specs.declared.judging.Walk.{Walk}
 use Rattle.loader.specs.Judging.{Open, Counted, Passed}
-use Rattle.loader.specs.declared.Answer.{Answer}
-use Rattle.loader.specs.Load.{not_open, on_closed, accepted, map_rule, Opens}
+use Rattle.loader.specs.Load.{Answer, not_open, on_closed, accepted, map_rule, Opens}
 
 -- equal answers have one number
 pub same_number : {r s : Answer} → r ≡ s → r.number ≡ s.number

@@ -18,8 +18,7 @@ use Rattle.region_map.specs.declared.places.Region.{Region}
 use Rattle.region_map.specs.Search.{Places}
 use Rattle.region_map.specs.Map.{SoundMap, is_open, memory_size, place_of}
 use Rattle.region_map.proofs.PlaceLaws.{place_lt, place_inj}
-use Rattle.boot_table.specs.declared.Step.TheVariants.{Section, End}
-use Rattle.boot_table.specs.Table.{Sect, step_at, section_at, before, read_on}
+use Rattle.boot_table.specs.Table.{Section, End, Sect, step_at, section_at, before, read_on}
 use Rattle.boot_table.proofs.StepLaws.{IsSection, section_of, body_is, length_body}
 use Rattle.boot_table.proofs.ReadLaws.{read_section, read_end}
 use Rattle.boot_table.specs.Valid.{All, none as All-none, also}

@@ -1,5 +1,7 @@
 -- What the functions of judging ensure, by name: stretches of open addresses, and what a walk has passed. m is a map, t a table, o its byte order.
-use Rattle.std.specs.Prelude.{ℕ, ◌≤◌, ◌<◌, ◌≡◌, List, true, false, length}
+use Rattle.std.specs.Prelude.{ℕ, ◌≤◌, ◌<◌, ◌≡◌, List, true, false, length, Option, Some, None, Result, Ok, Err, ⊤}
+use Rattle.words.specs.declared.refusal.Refusal.{Refusal}
+use Rattle.words.specs.declared.refusal.Refusal.TheVariants.{StoredTwice}
 use Rattle.words.specs.declared.ByteOrder.{ByteOrder}
 use Rattle.region_map.specs.Map.{count, reserved, any_holds, is_open}
 use Rattle.boot_table.specs.Table.{reading, read_on}
@@ -60,3 +62,10 @@ pub record WalkedOn (o : ByteOrder) (t : List ℕ) (w : Walk) (s : Stretch) (r :
   pub far : w.offset ≤ r.offset
   pub counted : Counted t r
   pub passed : (m : List ℕ) → Passed o m t w s → Passed o m t r s
+
+-- ---- one write
+
+-- the refusal of a section at an offset that stores an address of kind 3 again, or none
+abbrev pub once_result : Option ℕ → Result ⊤ Refusal
+once_result None = Ok tt
+once_result (Some at) = Err (StoredTwice at)

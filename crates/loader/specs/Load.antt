@@ -1,19 +1,50 @@
 -- What judging and loading answer, and what loading leaves in memory. m is a map, t a table, o its byte order, mem memory.
-use Rattle.std.specs.Prelude.{ℕ, List, [], ◌∷◌, ◌≡◌, true, false, not, length, eqb}
-use Rattle.std.proofs.Math.Option.{Option, none, some}
+use Rattle.std.specs.Prelude.{ℕ, List, [], ◌∷◌, ◌≡◌, Bool, true, false, not, length, eqb, Option, Some, None, Result, Ok, Err}
+use Rattle.std.proofs.Math.Option.{Option as Maybe, none, some}
+use Rattle.words.specs.declared.refusal.Refusal.{Refusal}
 use Rattle.words.specs.declared.ByteOrder.{ByteOrder}
 use Rattle.words.specs.Choice.{if}
-use Rattle.words.specs.Refusal.{memory_length_number, not_open_number, stored_twice_number}
+use Rattle.words.specs.Refusal.{memory_length_number, not_open_number, stored_twice_number, number_of, place_of, address_of}
 use Rattle.region_map.specs.Map.{SoundMap, map_answer, memory_size, is_open, closed_from}
 use Rattle.boot_table.specs.Table.{entry_of, Sect, next_of, reading}
 use Rattle.boot_table.specs.Form.{form_of, total, WellFormed}
 use Rattle.boot_table.specs.Meaning.{covers}
 use Rattle.boot_table.specs.Valid.{All}
-use Rattle.one_write.specs.declared.Repeat.{Repeat}
-use Rattle.one_write.specs.declared.Repeat.TheVariants.{Nowhere, At}
 use Rattle.one_write.specs.Once.{first_repeat, StoresOnce}
-use Rattle.loader.specs.declared.Answer.{Answer}
+use Rattle.loader.specs.declared.Summary.{Summary}
 use Rattle.loader.specs.Store.{store_all}
+
+-- what judging and loading answer: number 0 for an accepted table, which has no place and no address; a refusal has its
+-- number and place, and where an address is not open the lowest such address, and all else is zero
+pub record Answer : Type 0 where
+  pub number : ℕ
+  pub place : ℕ
+  pub address : ℕ
+  pub entry : ℕ
+  pub entry_open : Bool
+  pub sections : ℕ
+  pub bytes : ℕ
+
+-- the numbers of what the code answers
+abbrev pub answer_of : Result Summary Refusal → Answer
+answer_of (Ok s) = record {
+  number = 0;
+  place = 0;
+  address = 0;
+  entry = s.entry;
+  entry_open = s.entry_open;
+  sections = s.sections;
+  bytes = s.bytes;
+}
+answer_of (Err refusal) = record {
+  number = number_of refusal;
+  place = place_of refusal;
+  address = address_of refusal;
+  entry = 0;
+  entry_open = false;
+  sections = 0;
+  bytes = 0;
+}
 
 -- a refusal: its number and place, all else zero
 abbrev pub refused : ℕ → ℕ → Answer
@@ -38,7 +69,7 @@ accepted o m t = record {
 }
 
 -- a section at offset at, by its lowest address that is not open: refused, or as the later ones are
-abbrev pub on_closed : ℕ → Answer → Option ℕ → Answer
+abbrev pub on_closed : ℕ → Answer → Maybe ℕ → Answer
 on_closed at later none = later
 on_closed at later (some a) = not_open at a
 
@@ -49,9 +80,9 @@ map_rule m fine at (s ∷ ss) =
     on_closed at (map_rule m fine (next_of at (length s.body)) ss) (closed_from m (length s.body) s.address)
 
 -- the first section that stores an address of kind 3 again is refused; else the answer is a later one
-abbrev pub on_repeat : Answer → Repeat → Answer
-on_repeat later Nowhere = later
-on_repeat later (At at) = refused stored_twice_number at
+abbrev pub on_repeat : Answer → Option ℕ → Answer
+on_repeat later None = later
+on_repeat later (Some at) = refused stored_twice_number at
 
 -- the answer for a table that keeps the map rule: no address of kind 3 is stored twice, or it is refused
 unfoldable pub once_answer : ByteOrder → List ℕ → List ℕ → Answer

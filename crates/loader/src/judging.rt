@@ -1,19 +1,18 @@
 // Judging a table's form and the map rule in one walk, which remembers how far addresses are open.
-ghost use Rattle.std.specs.Prelude.{◌≡◌, ◌≤◌, ◌<◌, ◌^◌};
+ghost use Rattle.std.specs.Prelude.{◌≡◌, ◌≤◌, ◌<◌, ◌^◌, Ok};
 ghost use Rattle.boot_table.specs.Form.{formed, form_of};
-ghost use Rattle.loader.specs.Load.{not_open, accepted, form_first, open_answer};
+ghost use Rattle.loader.specs.Load.{accepted, open_answer, answer_of};
 ghost use Rattle.loader.specs.Judging.{Clear, ClearPast, Open, Lengthened, OpenTo, Counted, WalkedOn};
 
-use crate::{Answer, refused};
-use boot_table::{Step, TABLE_LIMIT, entry_of, form_of, step_at};
+use crate::Summary;
+use boot_table::{TABLE_LIMIT, entry_of, form_of, step_at};
 use region_map::{is_open, permitted_until, reserved_from};
-use words::refusal::{NOT_OPEN, TABLE_CUT, TABLE_LONG};
-use words::{ByteOrder, lower};
+use words::{ByteOrder, Refusal};
 
 // ---- open stretches
 
 // A stretch of open addresses, from one on and up to another. Those after them, up to clear, are in no reserved record.
-#[derive(Clone, Copy)]
+#[derive(Clone, Copy, Debug, PartialEq, Eq)]
 struct Stretch {
     from: u64,
     until: u64,
@@ -39,7 +38,7 @@ fn lengthen(map: &[u8], stretch: Stretch, end: u64) -> Stretch
     let mut longer = stretch;
     while longer.until < end {
         longer.clear = clear_past(map, longer.clear, longer.until);
-        let next = lower(permitted_until(map, longer.until), longer.clear);
+        let next = permitted_until(map, longer.until).min(longer.clear);
         if next <= longer.until {
             return longer;
         }
@@ -55,10 +54,8 @@ fn stretch_to(map: &[u8], known: Stretch, reserved: u64, address: u64, end: u64)
     requires { (end ≤ 2 ^ 32) × Open map.now known × Clear map.now 0 reserved }
     ensures { OpenTo map.now address end result }
 {
-    if known.from <= address {
-        if address <= known.until {
-            return lengthen(map, known, end);
-        }
+    if known.from <= address && address <= known.until {
+        return lengthen(map, known, end);
     }
     let new = Stretch {
         from: address,
@@ -68,54 +65,24 @@ fn stretch_to(map: &[u8], known: Stretch, reserved: u64, address: u64, end: u64)
     lengthen(map, new, end)
 }
 
-// ---- the answers
-
-fn not_open(place: usize, address: u32) -> Answer
-    ensures { result ≡ not_open place address }
-{
-    Answer {
-        number: NOT_OPEN,
-        place: place,
-        address: address,
-        entry: 0,
-        entry_open: false,
-        sections: 0,
-        bytes: 0,
-    }
-}
-
-// The answer for a table: a fault of its form, or else a later one.
-fn form_first(table: &[u8], order: ByteOrder, later: Answer) -> Answer
-    ensures { result ≡ form_first order table.now later }
-{
-    let form = form_of(table, order);
-    if form.number != 0 {
-        return refused(form.number, form.place);
-    }
-    later
-}
-
-// The answer for an accepted table with so many sections and data bytes.
-fn accepted(map: &[u8], table: &[u8], order: ByteOrder, sections: usize, bytes: usize) -> Answer
-    requires { form_of order table.now ≡ formed sections bytes }
-    ensures { result ≡ accepted order map.now table.now }
-{
-    let entry = entry_of(table, order);
-    Answer {
-        number: 0,
-        place: 0,
-        address: 0,
-        entry: entry,
-        entry_open: is_open(map, entry),
-        sections: sections,
-        bytes: bytes,
-    }
-}
-
 // ---- the walk
 
+// What is answered for an accepted table with so many sections and data bytes.
+fn accepted(map: &[u8], table: &[u8], order: ByteOrder, sections: usize, bytes: usize) -> Summary
+    requires { form_of order table.now ≡ formed sections bytes }
+    ensures { answer_of (Ok result) ≡ accepted order map.now table.now }
+{
+    let entry = entry_of(table, order);
+    Summary {
+        entry,
+        entry_open: is_open(map, entry),
+        sections,
+        bytes,
+    }
+}
+
 // Where a walk stands: the offset, and how many sections and data bytes it has passed.
-#[derive(Clone, Copy)]
+#[derive(Clone, Copy, Debug, PartialEq, Eq)]
 struct Walk {
     offset: usize,
     sections: usize,
@@ -130,40 +97,31 @@ fn walk_on(table: &[u8], order: ByteOrder, walk: Walk, stretch: Stretch) -> Walk
 {
     let mut on = walk;
     loop {
-        let step = step_at(table, order, on.offset);
-        let Step::Section {
-            address,
-            size,
-            start: _,
-            next,
-        } = step
-        else {
+        let Ok(Some(section)) = step_at(table, order, on.offset) else {
             return on;
         };
-        if (address as u64) < stretch.from {
+        let address = section.address as u64;
+        if address < stretch.from || stretch.until < address + section.size as u64 {
             return on;
         }
-        if stretch.until < address as u64 + size as u64 {
-            return on;
-        }
-        on.offset = next;
+        on.offset = section.next;
         on.sections += 1;
-        on.bytes += size;
+        on.bytes += section.size;
     }
 }
 
 // Judges a table by its form and by the map rule, from stretch to stretch. Where an address is not open, a fault of the
 // form that stands after it goes first. Each turn passes the section that the walk stopped at, now that the stretch holds
 // it.
-pub fn judge_open(map: &[u8], table: &[u8], order: ByteOrder) -> Answer
-    ensures { result ≡ open_answer order map.now table.now }
+pub fn judge_open(map: &[u8], table: &[u8], order: ByteOrder) -> Result<Summary, Refusal>
+    ensures { answer_of result ≡ open_answer order map.now table.now }
 {
     let reserved = reserved_from(map, 0);
     if TABLE_LIMIT < table.len() {
-        return refused(TABLE_LONG, 0);
+        return Err(Refusal::TableLong);
     }
     if table.len() < 4 {
-        return refused(TABLE_CUT, 0);
+        return Err(Refusal::TableCut { place: 0 });
     }
     let mut walk = Walk {
         offset: 4,
@@ -177,26 +135,21 @@ pub fn judge_open(map: &[u8], table: &[u8], order: ByteOrder) -> Answer
     };
     loop {
         walk = walk_on(table, order, walk, known);
-        let step = step_at(table, order, walk.offset);
-        let Step::Section {
-            address,
-            size,
-            start: _,
-            next,
-        } = step
-        else {
-            let Step::Fault { number, place } = step else {
-                return accepted(map, table, order, walk.sections, walk.bytes);
-            };
-            return refused(number, place);
+        let Some(section) = step_at(table, order, walk.offset)? else {
+            return Ok(accepted(map, table, order, walk.sections, walk.bytes));
         };
-        let end = address as u64 + size as u64;
-        known = stretch_to(map, known, reserved, address as u64, end);
+        let address = section.address as u64;
+        let end = address + section.size as u64;
+        known = stretch_to(map, known, reserved, address, end);
         if known.until < end {
-            return form_first(table, order, not_open(walk.offset, known.until as u32));
+            form_of(table, order)?;
+            return Err(Refusal::NotOpen {
+                place: walk.offset,
+                address: known.until as u32,
+            });
         }
-        walk.offset = next;
+        walk.offset = section.next;
         walk.sections += 1;
-        walk.bytes += size;
+        walk.bytes += section.size;
     }
 }

@@ -8,19 +8,17 @@ ghost use Rattle.boot_table.specs.Table.{reading};
 ghost use Rattle.loader.specs.Store.{store_bytes, store_all};
 ghost use Rattle.loader.specs.Load.{table_answer};
 
-use boot_table::{Step, whole_step};
+use boot_table::whole_step;
 use region_map::{Region, region_of};
-use words::{ByteOrder, copy, lower};
+use words::{ByteOrder, copy};
 
 // The region that holds an open address: the known one, or else the one that is looked for.
 fn region_for(map: &[u8], known: Region, address: u64) -> Region
     requires { SoundMap map.now × (is_open map.now address ≡ true) × Places map.now known }
     ensures { Places map.now result × (result.first ≤ address) × (address < result.end) }
 {
-    if known.first <= address {
-        if address < known.end {
-            return known;
-        }
+    if known.first <= address && address < known.end {
+        return known;
     }
     region_of(map, address)
 }
@@ -33,7 +31,7 @@ fn store_run(memory: &mut [u8], region: Region, address: u64, body: &[u8]) -> us
     ensures memory_after { memory.new ≡ over memory.old (region.place + (address - region.first)) (take result body.now) }
 {
     let place = region.place + (address - region.first) as usize;
-    let count = lower(region.end - address, body.len() as u64) as usize;
+    let count = (region.end - address).min(body.len() as u64) as usize;
     copy(&body[..count], &mut memory[place..]);
     count
 }
@@ -70,18 +68,17 @@ pub fn store_sections(map: &[u8], table: &[u8], order: ByteOrder, memory: &mut [
         place: 0,
     };
     loop {
-        let step = whole_step(table, order, at);
-        let Step::Section {
-            address,
-            size,
-            start,
-            next,
-        } = step
-        else {
+        let Some(section) = whole_step(table, order, at) else {
             return;
         };
-        let end = start + size;
-        region = store_section(map, memory, region, address, &table[start..end]);
-        at = next;
+        let end = section.start + section.size;
+        region = store_section(
+            map,
+            memory,
+            region,
+            section.address,
+            &table[section.start..end],
+        );
+        at = section.next;
     }
 }

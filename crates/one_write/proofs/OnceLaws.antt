@@ -15,7 +15,7 @@ use Rattle.boot_table.specs.Table.{Sect, next_of}
 use Rattle.boot_table.specs.Meaning.{covers, times}
 use Rattle.boot_table.specs.Pads.{bare}
 use Rattle.boot_table.proofs.MeaningLaws.{covers_true, covers_in, times_yes, times_no, times_first, times_one, times_append}
-use Rattle.one_write.specs.declared.Repeat.TheVariants.{Nowhere, At}
+use Rattle.std.specs.Prelude.{None, Some}
 use Rattle.one_write.specs.Once.{written, repeats_from, repeat_from, StoresOnce, NoneInBoth}
 
 -- ---- addresses of kind 3 that sections store
@@ -84,7 +84,7 @@ module _ (m : List ℕ) (earlier : List Sect) where
 -- ---- the first section that stores such an address again
 
 module _ (m : List ℕ) (at : ℕ) (earlier : List Sect) (s : Sect) (ss : List Sect) where
-  pub repeat_here : repeats_from m earlier (length s.body) s.address ≡ true → repeat_from m at earlier (s ∷ ss) ≡ At at
+  pub repeat_here : repeats_from m earlier (length s.body) s.address ≡ true → repeat_from m at earlier (s ∷ ss) ≡ Some at
   unfolding repeat_from
   repeat_here e = rw e
 
@@ -97,12 +97,12 @@ module _ (m : List ℕ) (at : ℕ) (earlier : List Sect) (s : Sect) (ss : List S
 times_behind : (earlier : List Sect) (s : Sect) (ss : List Sect) (a : ℕ) → times (earlier ++ s ∷ []) a + times ss a ≡ times earlier a + times (s ∷ ss) a
 times_behind earlier s ss a = omega (arith, times_append earlier (s ∷ []) a, times_first s ss a)
 
-at_not : (at : ℕ) → At at ≡ Nowhere → ⊥
+at_not : (at : ℕ) → Some at ≡ None → ⊥
 at_not at z = let y : ◌≡◌ {A = ℕ} 0 1 = cc in omega arith
 
 module _ (m : List ℕ) where
   -- none does where each address of kind 3 is stored once at most
-  pub once_nowhere : (at : ℕ) (earlier ss : List Sect) → ((a : ℕ) → once m a ≡ true → times earlier a + times ss a ≤ 1) → repeat_from m at earlier ss ≡ Nowhere
+  pub once_nowhere : (at : ℕ) (earlier ss : List Sect) → ((a : ℕ) → once m a ≡ true → times earlier a + times ss a ≤ 1) → repeat_from m at earlier ss ≡ None
   unfolding repeat_from
   once_nowhere at earlier [] f = refl
   once_nowhere at earlier (s ∷ ss) f =
@@ -112,7 +112,7 @@ module _ (m : List ℕ) where
       (λ a e. let k = f a e in let b = times_behind earlier s ss a in omega arith)
 
   -- and only there
-  pub nowhere_once : (at : ℕ) (earlier ss : List Sect) → repeat_from m at earlier ss ≡ Nowhere → (a : ℕ) → once m a ≡ true → times earlier a ≤ 1
+  pub nowhere_once : (at : ℕ) (earlier ss : List Sect) → repeat_from m at earlier ss ≡ None → (a : ℕ) → once m a ≡ true → times earlier a ≤ 1
       → times earlier a + times ss a ≤ 1
   unfolding times
   nowhere_once at earlier [] n a e h = omega arith
@@ -126,7 +126,7 @@ module _ (m : List ℕ) where
       behind q false c = omega (arith, times_append earlier (s ∷ []) a, times_no s [] a c)
 
       go : (b : Bool) → repeats_from m earlier (length s.body) s.address ≡ b
-          → (repeat_from m (next_of at (length s.body)) (earlier ++ s ∷ []) ss ≡ Nowhere → times (earlier ++ s ∷ []) a ≤ 1 → times (earlier ++ s ∷ []) a + times ss a ≤ 1)
+          → (repeat_from m (next_of at (length s.body)) (earlier ++ s ∷ []) ss ≡ None → times (earlier ++ s ∷ []) a ≤ 1 → times (earlier ++ s ∷ []) a + times ss a ≤ 1)
           → times earlier a + times (s ∷ ss) a ≤ 1
       go true q ih = absurd (at_not at (sym (repeat_here m at earlier s ss q) ∙ n))
       go false q ih =
@@ -134,7 +134,7 @@ module _ (m : List ℕ) where
           omega (arith, times_behind earlier s ss a)
 
   -- of sections behind none
-  pub nowhere_iff : (at : ℕ) (ss : List Sect) → (repeat_from m at [] ss ≡ Nowhere) ↔ (StoresOnce m ss)
+  pub nowhere_iff : (at : ℕ) (ss : List Sect) → (repeat_from m at [] ss ≡ None) ↔ (StoresOnce m ss)
   unfolding times
   nowhere_iff at ss = (
     λ n a e. let k = nowhere_once at [] ss n a e (omega arith) in omega arith,
@@ -145,7 +145,7 @@ module _ (m : List ℕ) where
   pub once_alone : (s : Sect) → StoresOnce m (s ∷ [])
   once_alone s a e = times_one s a
 
-  pub alone_nowhere : (at : ℕ) (s : Sect) → repeat_from m at [] (s ∷ []) ≡ Nowhere
+  pub alone_nowhere : (at : ℕ) (s : Sect) → repeat_from m at [] (s ∷ []) ≡ None
   alone_nowhere at s = (nowhere_iff at (s ∷ [])).1 (once_alone s)
 
   -- sections one after the other do exactly where each part does and no such address is stored by both
@@ -162,7 +162,7 @@ module _ (m : List ℕ) where
   )
 
   -- where no address takes one write nothing is stored again
-  pub plain_nowhere : ((a : ℕ) → once m a ≡ false) → (at : ℕ) (ss : List Sect) → repeat_from m at [] ss ≡ Nowhere
+  pub plain_nowhere : ((a : ℕ) → once m a ≡ false) → (at : ℕ) (ss : List Sect) → repeat_from m at [] ss ≡ None
   plain_nowhere f at ss = (nowhere_iff at ss).1 (λ a e. absurd (both_ways (once m a) e (f a)))
 
 -- ---- pads do not count

@@ -17,8 +17,7 @@ use Rattle.region_map.specs.Search.{lowest_from}
 use Rattle.region_map.proofs.RecordLaws.{last}
 use Rattle.region_map.proofs.OpenLaws.{lowest_low}
 use Rattle.region_map.proofs.OnceLaws.{once_below, once_found}
-use Rattle.boot_table.specs.declared.Step.TheVariants.{Section, End}
-use Rattle.boot_table.specs.Table.{Sect, Reading, next_of, step_at, section_at, before, read_on, reading}
+use Rattle.boot_table.specs.Table.{Section, End, Sect, Reading, next_of, step_at, section_at, before, read_on, reading}
 use Rattle.boot_table.specs.Form.{WellFormed}
 use Rattle.boot_table.specs.Meaning.{covers, times}
 use Rattle.boot_table.specs.Valid.{All, none, also}
@@ -27,7 +26,7 @@ use Rattle.boot_table.proofs.ReadLaws.{read_section, read_end, read_next, whole_
 use Rattle.boot_table.proofs.FormLaws.{well_read, well_long}
 use Rattle.boot_table.proofs.MeaningLaws.{covers_true, covers_in, times_yes, times_no, times_append}
 use Rattle.one_write.specs.declared.Earlier.{Earlier}
-use Rattle.one_write.specs.declared.Repeat.TheVariants.{Nowhere, At}
+use Rattle.std.specs.Prelude.{None, Some}
 use Rattle.one_write.specs.Once.{written, repeats_from, repeat_from, first_repeat}
 use Rattle.one_write.specs.Walk.{Meets, Between, earlier_with}
 use Rattle.one_write.proofs.OnceLaws.{written_yes, written_not, written_none, written_skip, repeats_yes, repeats_none, repeat_here, repeat_on}
@@ -146,7 +145,7 @@ read_topped o t = whole_ind o t (λ (at : ℕ). All Topped (read_on o t at).sect
     let i = section_of o t at e in
     rw (read_section o t at e) (also {s = section_at t at address size} (rw (length_body o t at i) i.top) on))
 
-plain_from : (m : List ℕ) → ((x : ℕ) → x < 2 ^ 32 → once m x ≡ false) → (at : ℕ) (earlier : List Sect) {ss : List Sect} → All Topped ss → repeat_from m at earlier ss ≡ Nowhere
+plain_from : (m : List ℕ) → ((x : ℕ) → x < 2 ^ 32 → once m x ≡ false) → (at : ℕ) (earlier : List Sect) {ss : List Sect} → All Topped ss → repeat_from m at earlier ss ≡ None
 unfolding repeat_from
 plain_from m f at earlier none = refl
 plain_from m f at earlier (also {s = s} {ss = ss} h hs) =
@@ -154,7 +153,7 @@ plain_from m f at earlier (also {s = s} {ss = ss} h hs) =
     (repeats_none m earlier (length s.body) s.address (λ x l u. written_not m earlier x (f x (omega (arith, h)))))
     ∙ plain_from m f (next_of at (length s.body)) (earlier ++ s ∷ []) hs
 
-pub plain_table : (o : ByteOrder) (m t : List ℕ) → WellFormed o t → 2 ^ 32 ≤ lowest_from (one_write m) m (count m) 0 → first_repeat o m t ≡ Nowhere
+pub plain_table : (o : ByteOrder) (m t : List ℕ) → WellFormed o t → 2 ^ 32 ≤ lowest_from (one_write m) m (count m) 0 → first_repeat o m t ≡ None
 unfolding first_repeat
 plain_table o m t w h =
     let r = well_read o t w in
@@ -187,7 +186,7 @@ behind_none o m t low high f =
 
 -- a section that stores such an address again ends it
 pub behind_here : (o : ByteOrder) (m t : List ℕ) (at : ℕ) (p : Earlier) {address size start next : ℕ} → step_at o t at ≡ Section address size start next
-    → Behind o m t at p → Meets (written m (take p.sections (reading o t).sections)) address (address + size) true → first_repeat o m t ≡ At at
+    → Behind o m t at p → Meets (written m (take p.sections (reading o t).sections)) address (address + size) true → first_repeat o m t ≡ Some at
 unfolding before section_at
 behind_here o m t at p {address} {size} {start} {next} e b w =
     let h = w.hit refl in
@@ -198,7 +197,7 @@ behind_here o m t at p {address} {size} {start} {next} e b w =
     (repeats_yes m earlier (length (section_at t at address size).body) address h.0 h.1 (omega (arith, h.2, length_body o t at (section_of o t at e))) h.3)
 
 -- the zero word as well
-pub behind_end : (o : ByteOrder) (m t : List ℕ) (at : ℕ) (p : Earlier) → step_at o t at ≡ End → Behind o m t at p → first_repeat o m t ≡ Nowhere
+pub behind_end : (o : ByteOrder) (m t : List ℕ) (at : ℕ) (p : Earlier) → step_at o t at ≡ End → Behind o m t at p → first_repeat o m t ≡ None
 unfolding repeat_from
 behind_end o m t at p e b =
     b.rule ∙ ap (λ (r : Reading). repeat_from m at (take p.sections (reading o t).sections) r.sections) (read_end o t at e)

@@ -5,8 +5,7 @@ use Rattle.words.specs.Choice.{if}
 use Rattle.region_map.specs.Map.{once}
 use Rattle.boot_table.specs.Table.{Sect, next_of, reading}
 use Rattle.boot_table.specs.Meaning.{times}
-use Rattle.one_write.specs.declared.Repeat.{Repeat}
-use Rattle.one_write.specs.declared.Repeat.TheVariants.{Nowhere, At}
+use Rattle.std.specs.Prelude.{Option, None, Some}
 
 -- the address a takes one write, and one of the sections stores it
 unfoldable pub written : List ℕ → List Sect → ℕ → Bool
@@ -18,14 +17,14 @@ repeats_from m earlier zero a = false
 repeats_from m earlier (suc n) a = written m earlier a || repeats_from m earlier n (suc a)
 
 -- the first section that stores such an address again, of those from offset at on, which stand behind the earlier ones
-unfoldable pub repeat_from : List ℕ → ℕ → List Sect → List Sect → Repeat
-repeat_from m at earlier [] = Nowhere
+unfoldable pub repeat_from : List ℕ → ℕ → List Sect → List Sect → Option ℕ
+repeat_from m at earlier [] = None
 repeat_from m at earlier (s ∷ ss) =
-    if (repeats_from m earlier (length s.body) s.address) (At at)
+    if (repeats_from m earlier (length s.body) s.address) (Some at)
     (repeat_from m (next_of at (length s.body)) (earlier ++ s ∷ []) ss)
 
 -- the first section of a table that does
-unfoldable pub first_repeat : ByteOrder → List ℕ → List ℕ → Repeat
+unfoldable pub first_repeat : ByteOrder → List ℕ → List ℕ → Option ℕ
 first_repeat o m t = repeat_from m 4 [] (reading o t).sections
 
 -- the sections store no address of kind 3 twice

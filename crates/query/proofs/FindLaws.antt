@@ -3,24 +3,29 @@ use Prim.Native.Nat.{ℕ, ◌+◌, ◌-◌, ◌*◌, ◌≤◌, ◌<◌}
 use mathlib.Core.Path.{◌≡◌, refl, sym, ap, ◌∙◌}
 use mathlib.Core.Logic.{by_cases}
 use mathlib.Core.List.{List}
-use mathlib.Core.Bool.{Bool, true, false, ◌&&◌}
+use mathlib.Core.Bool.{Bool, false, ◌&&◌}
 use native.Mathlib.Nat.{add-zero}
 use native.Mathlib.Omega.{arith}
 use native.Mathlib.Decide.{ℕ_discrete}
 use borrow.Author.Tests.{ne_eqb}
 use lib.ListN.{length, take, drop}
 use lib.Dec.{eqb}
+use Rattle.std.specs.Prelude.{Option, Some, None, Result, Ok, Err}
 use Rattle.words.specs.declared.ByteOrder.{ByteOrder}
+use Rattle.words.specs.Refusal.{number_of, place_of}
+use Rattle.words.specs.declared.refusal.Refusal.{Refusal}
 use Rattle.words.proofs.ChoiceLaws.{if_both}
+use Rattle.words.proofs.RefusalLaws.{number_some}
 use Rattle.boot_table.specs.Table.{reading}
 use Rattle.boot_table.specs.Form.{table_limit, form_of, WellFormed}
 use Rattle.boot_table.proofs.FormLaws.{form_well, well_form, well_sections}
 use Rattle.query.specs.declared.Hit.{Hit}
-use Rattle.query.specs.declared.Hit.TheVariants.{Nowhere, At}
-use Rattle.query.specs.declared.Walk.{Walk}
-use Rattle.query.specs.declared.Walk.TheVariants.{Whole, Faulty}
+use Rattle.query.specs.declared.Which.TheVariants.{Older as InOlder, Newer as InNewer}
+use Rattle.query.specs.declared.TablePart.{TablePart}
 use Rattle.query.specs.declared.Found.{Found}
-use Rattle.query.specs.Find.{header_walk, walked, find_refused, from_hits, from_walks, find_answer, in_newer, chosen, part_bytes, part_start}
+use Rattle.query.specs.declared.FindRefusal.{FindRefusal}
+use Rattle.query.specs.declared.FindRefusal.TheVariants.{Older, Newer}
+use Rattle.query.specs.Find.{Walk, Whole, Faulty, FindAnswer, header_walk, walked, find_refused, from_hits, from_walks, find_answer, part_of, answer_of, in_newer, chosen, part_bytes, part_start}
 use Rattle.query.specs.Covering.{NoPart, Says, Refuses, Finding}
 use Rattle.query.proofs.HitLaws.{read_count, HitSays, walk_says}
 
@@ -38,7 +43,7 @@ module _ (o : ByteOrder) (t : List ℕ) (a : ℕ) where
   fault_walked n = simp (ne_eqb _ _ n)
 
   -- a table that is walked is well-formed
-  walked_well : {h : Hit} {n : ℕ} → walked o t a ≡ Whole h n → WellFormed o t
+  walked_well : {h : Option Hit} {n : ℕ} → walked o t a ≡ Whole h n → WellFormed o t
   walked_well e =
       by_cases (ℕ_discrete (form_of o t).number 0)
       (λ z. form_well o t z)
@@ -52,7 +57,7 @@ module _ (o : ByteOrder) (t : List ℕ) (a : ℕ) where
       (λ n. let f = fault_walked n in let same : (form_of o t).number ≡ number = cc in n (same ∙ zero_number))
 
   -- a walk reads no more bytes than a table may have
-  pub read_few : {h : Hit} {n : ℕ} → walked o t a ≡ Whole h n → n ≤ table_limit
+  pub read_few : {h : Option Hit} {n : ℕ} → walked o t a ≡ Whole h n → n ≤ table_limit
   unfolding header_walk
   read_few {h} {n} e =
       let w = walked_well e in
@@ -68,12 +73,12 @@ module _ (o : ByteOrder) (older newer : List ℕ) (a : ℕ) where
   unfolding find_answer
   find_first e = sym (ap (λ (w : Walk). from_walks w (walked o newer a)) e)
 
-  pub find_second : {h : Hit} {n number place : ℕ} → walked o older a ≡ Whole h n → walked o newer a ≡ Faulty number place
+  pub find_second : {h : Option Hit} {n number place : ℕ} → walked o older a ≡ Whole h n → walked o newer a ≡ Faulty number place
       → find_refused number place 2 ≡ find_answer o older newer a
   unfolding find_answer
   find_second {h} {n} e f = sym (ap (λ (w : Walk). from_walks w (walked o newer a)) e ∙ ap (from_walks (Whole h n)) f)
 
-  pub find_both : {h k : Hit} {n m : ℕ} → walked o older a ≡ Whole h n → walked o newer a ≡ Whole k m → from_hits h k (n + m) ≡ find_answer o older newer a
+  pub find_both : {h k : Option Hit} {n m : ℕ} → walked o older a ≡ Whole h n → walked o newer a ≡ Whole k m → from_hits h k (n + m) ≡ find_answer o older newer a
   unfolding find_answer
   find_both {h} {k} {n} {m} e f = sym (ap (λ (w : Walk). from_walks w (walked o newer a)) e ∙ ap (from_walks (Whole h n)) f)
 
@@ -87,17 +92,17 @@ module _ (o : ByteOrder) (older newer : List ℕ) (a : ℕ) where
   find_only z = go (walked o older a) (walked o newer a) refl refl
     where
       go : (x y : Walk) → walked o older a ≡ x → walked o newer a ≡ y → (WellFormed o older) × (WellFormed o newer)
-      go (Faulty number place) y e f = absurd (faulty_number o older a e (ap (λ (r : Found). r.number) (find_first e) ∙ z))
-      go (Whole h n) (Faulty number place) e f = absurd (faulty_number o newer a f (ap (λ (r : Found). r.number) (find_second e f) ∙ z))
+      go (Faulty number place) y e f = absurd (faulty_number o older a e (ap (λ (r : FindAnswer). r.number) (find_first e) ∙ z))
+      go (Whole h n) (Faulty number place) e f = absurd (faulty_number o newer a f (ap (λ (r : FindAnswer). r.number) (find_second e f) ∙ z))
       go (Whole h n) (Whole k m) e f = (walked_well o older a e, walked_well o newer a f)
 
-found_number : (h k : Hit) (read : ℕ) → (from_hits h k read).number ≡ 0
-found_number h (At offset size) read = refl
-found_number (At offset size) Nowhere read = refl
-found_number Nowhere Nowhere read = refl
+found_number : (h k : Option Hit) (read : ℕ) → (from_hits h k read).number ≡ 0
+found_number h (Some hit) read = refl
+found_number (Some hit) None read = refl
+found_number None None read = refl
 
 -- an answer that does not name the newer table, with offset and length zero, tells of no part
-no_part : (older newer : List ℕ) (r : Found) → in_newer r ≡ false → r.offset ≡ 0 → r.length ≡ 0 → NoPart older newer r
+no_part : (older newer : List ℕ) (r : FindAnswer) → in_newer r ≡ false → r.offset ≡ 0 → r.length ≡ 0 → NoPart older newer r
 unfolding part_bytes part_start chosen
 no_part older newer r other offset size = record {
   bytes = rw size refl;
@@ -107,9 +112,9 @@ no_part older newer r other offset size = record {
 -- what the answer for two hits says, by what the hits say
 module _ (o : ByteOrder) (older newer : List ℕ) (a read : ℕ)
     (count : read ≡ 8 * (length (reading o older).sections + length (reading o newer).sections) + 4 + 4) where
-  hits_say : (h k : Hit) → HitSays 4 (reading o older).sections older a h → HitSays 4 (reading o newer).sections newer a k → Says o older newer a (from_hits h k read)
+  hits_say : (h k : Option Hit) → HitSays 4 (reading o older).sections older a h → HitSays 4 (reading o newer).sections newer a k → Says o older newer a (from_hits h k read)
   unfolding part_bytes part_start chosen in_newer
-  hits_say h (At offset size) p q = record {
+  hits_say h (Some hit) p q = record {
     in_newer = λ e. q.0;
     in_older = λ e. absurd (omega arith);
     in_neither = λ e. absurd (omega arith);
@@ -118,7 +123,7 @@ module _ (o : ByteOrder) (older newer : List ℕ) (a read : ℕ)
     inside = q.1;
     count = count;
   }
-  hits_say (At offset size) Nowhere p q = record {
+  hits_say (Some hit) None p q = record {
     in_newer = λ e. absurd (omega arith);
     in_older = λ e. (q, p.0);
     in_neither = λ e. absurd (omega arith);
@@ -127,10 +132,10 @@ module _ (o : ByteOrder) (older newer : List ℕ) (a read : ℕ)
     inside = p.1;
     count = count;
   }
-  hits_say Nowhere Nowhere p q = record {
+  hits_say None None p q = record {
     in_newer = λ e. absurd (omega arith);
     in_older = λ e. absurd (omega arith);
-    in_neither = λ e. (q, p, refl, refl, no_part older newer (from_hits Nowhere Nowhere read) refl refl refl);
+    in_neither = λ e. (q, p, refl, refl, no_part older newer (from_hits None None read) refl refl refl);
     tables = omega arith;
     starts = λ p q. (λ e. absurd (omega arith), λ e. absurd (omega arith));
     inside = omega arith;
@@ -153,7 +158,7 @@ walks_refuse o older newer a n = go (walked o older a) (walked o newer a) refl r
     go : (x y : Walk) → walked o older a ≡ x → walked o newer a ≡ y → Refuses older newer (find_answer o older newer a)
     go (Faulty number place) y e f = refused number place 1 (omega arith) (omega arith) (find_first o older newer a e)
     go (Whole h i) (Faulty number place) e f = refused number place 2 (omega arith) (omega arith) (find_second o older newer a e f)
-    go (Whole h i) (Whole k m) e f = absurd (n (ap (λ (r : Found). r.number) (sym (find_both o older newer a e f)) ∙ found_number h k (i + m)))
+    go (Whole h i) (Whole k m) e f = absurd (n (ap (λ (r : FindAnswer). r.number) (sym (find_both o older newer a e f)) ∙ found_number h k (i + m)))
 
 -- Every answer that is no refusal is given for two well-formed tables, and says which part stands at the address; a refusal tells of no part.
 pub finding : Finding
@@ -161,7 +166,7 @@ unfolding header_walk
 finding = record {
   accepted = λ o older newer a. (
     find_only o older newer a,
-    λ w. ap (λ (r : Found). r.number) (sym (find_well o older newer a w.0 w.1)) ∙ found_number (header_walk o older a).hit (header_walk o newer a).hit _,
+    λ w. ap (λ (r : FindAnswer). r.number) (sym (find_well o older newer a w.0 w.1)) ∙ found_number (header_walk o older a).hit (header_walk o newer a).hit _,
   );
   says = λ o older newer a z.
       let w = find_only o older newer a z in
@@ -176,37 +181,62 @@ finding = record {
 -- ---- the part
 
 -- the part lies inside its table, of every answer
-pub find_inside : (o : ByteOrder) (older newer : List ℕ) (a : ℕ) (r : Found) → r ≡ find_answer o older newer a → r.offset + r.length ≤ length (chosen r older newer)
+pub find_inside : (o : ByteOrder) (older newer : List ℕ) (a : ℕ) (r : FindAnswer) → r ≡ find_answer o older newer a → r.offset + r.length ≤ length (chosen r older newer)
 find_inside o older newer a r e =
     rw e (by_cases (ℕ_discrete (find_answer o older newer a).number 0)
     (λ z. (finding.says o older newer a z).inside)
     (λ n. let b = (walks_refuse o older newer a n).zero in omega arith))
 
 -- so it ends below any bound on the lengths of both tables
-pub find_fits : (o : ByteOrder) (older newer : List ℕ) (a n : ℕ) (r : Found) → r ≡ find_answer o older newer a → length older < n → length newer < n → r.offset + r.length < n
+pub find_fits : (o : ByteOrder) (older newer : List ℕ) (a n : ℕ) (r : FindAnswer) → r ≡ find_answer o older newer a → length older < n → length newer < n → r.offset + r.length < n
 unfolding chosen
 find_fits o older newer a n r e h k =
     let i = find_inside o older newer a r e in
     let l : length (chosen r older newer) < n = if_both (λ (t : List ℕ). length t < n) (in_newer r) newer older k h in
     omega arith
 
--- what is chosen, by the answer's test
-module _ {A : Type 0} (r : Found) (older newer : A) where
-  pub chosen_newer : in_newer r ≡ true → chosen r older newer ≡ newer
-  unfolding chosen
+-- which part the code's answer r tells of
+module _ (o : ByteOrder) (older newer : List ℕ) (a : ℕ) (r : Result Found FindRefusal) (e : answer_of r ≡ find_answer o older newer a) where
+  -- a part
+  pub some_found : (f : Found) (p : TablePart) → r ≡ Ok f → f.part ≡ Some p → part_of (Some p) f.read ≡ find_answer o older newer a
+  some_found f p is some = ap (λ (x : Option TablePart). part_of x f.read) (sym some) ∙ ap answer_of (sym is) ∙ e
+
+  -- none
+  pub none_found : (f : Found) → r ≡ Ok f → f.part ≡ None → NoPart older newer (find_answer o older newer a)
+  unfolding in_newer
+  none_found f is none =
+      let same : part_of None f.read ≡ find_answer o older newer a = ap (λ (x : Option TablePart). part_of x f.read) (sym none) ∙ ap answer_of (sym is) ∙ e in
+      rw (← same) (no_part older newer (part_of None f.read) refl refl refl)
+
+  -- nor in a refusal
+  pub refusal_found : (y : FindRefusal) → r ≡ Err y → NoPart older newer (find_answer o older newer a)
+  unfolding in_newer
+  refusal_found y is = go y (ap answer_of (sym is) ∙ e)
+    where
+      refused : (x : Refusal) (table : ℕ) → NoPart older newer (find_refused (number_of x) (place_of x) table)
+      refused x table = no_part older newer (find_refused (number_of x) (place_of x) table) (ap (λ (b : Bool). b && eqb table 2) (ne_eqb (number_of x) 0 (number_some x))) refl refl
+
+      go : (y : FindRefusal) → answer_of (Err y) ≡ find_answer o older newer a → NoPart older newer (find_answer o older newer a)
+      go (Older x) same = rw (← same) (refused x 1)
+      go (Newer x) same = rw (← same) (refused x 2)
+
+-- what is chosen, by the part's table
+module _ {A : Type 0} (p : TablePart) (read : ℕ) (older newer : A) where
+  pub chosen_newer : p.table ≡ InNewer → chosen (part_of (Some p) read) older newer ≡ newer
+  unfolding chosen in_newer
   chosen_newer e = rw e refl
 
-  pub chosen_older : in_newer r ≡ false → chosen r older newer ≡ older
-  unfolding chosen
+  pub chosen_older : p.table ≡ InOlder → chosen (part_of (Some p) read) older newer ≡ older
+  unfolding chosen in_newer
   chosen_older e = rw e refl
 
 -- the chosen table, lent from the offset of an answer on for its length, is the part
-pub part_lent : (r answer : Found) (older newer t : List ℕ) → r ≡ answer → chosen r older newer ≡ t
+pub part_lent : (r answer : FindAnswer) (older newer t : List ℕ) → r ≡ answer → chosen r older newer ≡ t
     → take (r.offset + r.length - r.offset) (drop r.offset t) ≡ part_bytes answer older newer
 unfolding part_bytes
 part_lent r answer older newer t e is = let n : r.offset + r.length - r.offset ≡ r.length = omega arith in rw (← e, is, n) refl
 
 -- and stands where the part does
-pub start_lent : (r answer : Found) (older newer p : ℕ × ℕ) (n : ℕ) → r ≡ answer → chosen r older newer ≡ p → n ≡ p.1 + r.offset → (p.0, n) ≡ part_start answer older newer
+pub start_lent : (r answer : FindAnswer) (older newer p : ℕ × ℕ) (n : ℕ) → r ≡ answer → chosen r older newer ≡ p → n ≡ p.1 + r.offset → (p.0, n) ≡ part_start answer older newer
 unfolding part_start
 start_lent r answer older newer p n e is at = rw (← e, is, at) refl

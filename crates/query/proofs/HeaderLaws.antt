@@ -9,6 +9,7 @@ use native.Mathlib.Decide.{dec_le, ℕ_discrete}
 use borrow.Author.Tests.{ne_eqb, le-leb, lt-ltb}
 use lib.ListN.{length, get_or}
 use lib.Dec.{leb, ltb, eqb}
+use Rattle.std.specs.Prelude.{Option, None}
 use Rattle.words.specs.declared.ByteOrder.{ByteOrder}
 use Rattle.words.specs.Header.{header_at}
 use Rattle.words.proofs.ChoiceLaws.{or_yes, if_both}
@@ -18,7 +19,6 @@ use Rattle.boot_table.specs.Form.{table_limit}
 use Rattle.boot_table.proofs.StepLaws.{IsSection, step_same, section_of, next_at}
 use Rattle.boot_table.proofs.ReadLaws.{read_section, read_begins, step_ind}
 use Rattle.query.specs.declared.Hit.{Hit}
-use Rattle.query.specs.declared.Hit.TheVariants.{Nowhere}
 use Rattle.query.specs.Find.{latest, walked, find_answer}
 use Rattle.query.specs.OneSection.{hit_in}
 use Rattle.query.specs.Headers.{in_header, header_from, SameHeaders, HeadersOnly}
@@ -72,9 +72,9 @@ module _ (o : ByteOrder) (t u : List ℕ) (long : length t ≡ length u) where
       same k (or_yes (in_header o t at k) (header_from o t (next_of at (length (section_at t at address size).body)) ss k) (rw (next_at o t at i) e))
 
   -- so both are walked alike from there on
-  walked_alike : (a at : ℕ) → Same at (read_on o t at).sections → (hit : Hit) (read : ℕ) → resume a hit read at (read_on o t at) ≡ resume a hit read at (read_on o u at)
+  walked_alike : (a at : ℕ) → Same at (read_on o t at).sections → (hit : Option Hit) (read : ℕ) → resume a hit read at (read_on o t at) ≡ resume a hit read at (read_on o u at)
   unfolding before
-  walked_alike a = step_ind o t (λ (at : ℕ). Same at (read_on o t at).sections → (hit : Hit) (read : ℕ) → resume a hit read at (read_on o t at) ≡ resume a hit read at (read_on o u at))
+  walked_alike a = step_ind o t (λ (at : ℕ). Same at (read_on o t at).sections → (hit : Option Hit) (read : ℕ) → resume a hit read at (read_on o t at) ≡ resume a hit read at (read_on o u at))
       (λ at e same hit read. walk_end o t a hit read at e ∙ sym (walk_end o u a hit read at (sym (next_step at (read_on o t at).sections same) ∙ e)))
       (λ at number place e same hit read. walk_fault o t a hit read at e ∙ sym (walk_fault o u a hit read at (sym (next_step at (read_on o t at).sections same) ∙ e)))
       (λ at address size start next e on same hit read.
@@ -90,7 +90,7 @@ same_walked o t u a s =
     (λ h. by_cases (dec_le 4 (length t))
     (λ k.
     let r = read_begins o t k in
-    walk_start o t a h k ∙ walked_alike o t u s.long a 4 (λ i e. s.same i (rw r e)) Nowhere 0
+    walk_start o t a h k ∙ walked_alike o t u s.long a 4 (λ i e. s.same i (rw r e)) None 0
     ∙ sym (walk_start o u a (omega (arith, s.long)) (omega (arith, s.long))))
     (λ n. walk_cut o t a h (omega arith) ∙ sym (walk_cut o u a (omega (arith, s.long)) (omega (arith, s.long)))))
     (λ n. walk_long o t a (omega arith) ∙ sym (walk_long o u a (omega (arith, s.long))))

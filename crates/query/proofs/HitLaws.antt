@@ -8,6 +8,7 @@ use native.Mathlib.Nat.{add-zero}
 use native.Mathlib.Omega.{arith}
 use lib.ListN.{length, get_or, take, drop, length-drop}
 use lib.Seq.{length-take-le, take-add, drop_at, drop-drop, get_or-drop}
+use Rattle.std.specs.Prelude.{Option, Some, None}
 use Rattle.words.specs.declared.ByteOrder.{ByteOrder}
 use Rattle.boot_table.specs.Table.{Sect, next_of, section_at, before, read_on, reading}
 use Rattle.boot_table.specs.Form.{WellFormed}
@@ -17,7 +18,6 @@ use Rattle.boot_table.proofs.ReadLaws.{read_section, read_end, read_fault, step_
 use Rattle.boot_table.proofs.FormLaws.{well_read}
 use Rattle.boot_table.proofs.MeaningLaws.{covers_true, times_no, last_append, uncovered_none}
 use Rattle.query.specs.declared.Hit.{Hit}
-use Rattle.query.specs.declared.Hit.TheVariants.{Nowhere, At}
 use Rattle.query.specs.Find.{hit_of, latest, passing, walk_from, header_walk}
 use Rattle.query.specs.Covering.{Uncovered, offset_after, LastCovers}
 
@@ -32,9 +32,9 @@ read_count at (s ∷ ss) a = let more = read_count (next_of at (length s.body)) 
 -- ---- the hit
 
 -- what a hit in the table t says of the sections ss from offset at on
-abbrev pub HitSays : ℕ → List Sect → List ℕ → ℕ → Hit → Type 0
-HitSays at ss t a Nowhere = Uncovered ss a
-HitSays at ss t a (At offset size) = (LastCovers at ss a offset (take size (drop offset t))) × (offset + size ≤ length t)
+abbrev pub HitSays : ℕ → List Sect → List ℕ → ℕ → Option Hit → Type 0
+HitSays at ss t a None = Uncovered ss a
+HitSays at ss t a (Some hit) = (LastCovers at ss a hit.offset (take hit.length (drop hit.offset t))) × (hit.offset + hit.length ≤ length t)
 
 -- a later section covers it, so a section before those changes nothing
 covers_later : (at next : ℕ) (s : Sect) → next_of at (length s.body) ≡ next → {ss : List Sect} {a offset : ℕ} {bytes : List ℕ}
@@ -104,10 +104,10 @@ hit_says o t a = step_ind o t (λ (at : ℕ). HitSays at (read_on o t at).sectio
     let rest : List Sect = (read_on o t next).sections in
     rw (read_section o t at e, next_at o t at i) (go at i rest (walk_from next rest a).hit on))
   where
-    go : (at : ℕ) {address size start next : ℕ} → IsSection o t at address size start next → (rest : List Sect) (h : Hit) → HitSays next rest t a h
+    go : (at : ℕ) {address size start next : ℕ} → IsSection o t at address size start next → (rest : List Sect) (h : Option Hit) → HitSays next rest t a h
         → HitSays at (section_at t at address size ∷ rest) t a (latest (hit_of at (section_at t at address size) a) h)
-    go at i rest Nowhere none-later = hit_here o t at i rest a none-later
-    go at {address} {size} {start} {next} i rest (At offset n) (l, within) = (covers_later at next (section_at t at address size) (next_at o t at i) l, within)
+    go at i rest None none-later = hit_here o t at i rest a none-later
+    go at {address} {size} {start} {next} i rest (Some hit) (l, within) = (covers_later at next (section_at t at address size) (next_at o t at i) l, within)
 
 -- so in a well-formed table
 pub walk_says : (o : ByteOrder) (t : List ℕ) (a : ℕ) → WellFormed o t → HitSays 4 (reading o t).sections t a (header_walk o t a).hit

@@ -1,19 +1,19 @@
 -- The header walk over a table, as a walk over its steps finds it.
-use Prim.Native.Nat.{ℕ, ◌+◌, ◌≤◌, ◌<◌}
+use Prim.Native.Nat.{ℕ, ◌+◌, ◌-◌, ◌%◌, ◌^◌, ◌≤◌, ◌<◌}
 use mathlib.Core.Path.{◌≡◌, refl, ap, ◌∙◌}
 use mathlib.Core.List.{List}
 use mathlib.Core.Logic.{by_cases}
 use native.Mathlib.Nat.{zero-add}
 use native.Mathlib.Omega.{arith}
-use native.Mathlib.Decide.{ℕ_discrete}
-use borrow.Author.Tests.{eq-eqb, ne_eqb, le-ltb}
+use native.Mathlib.Decide.{dec_le, ℕ_discrete}
+use borrow.Author.Tests.{eq-eqb, ne_eqb, lt-leb, le-leb, lt-ltb, le-ltb}
 use lib.ListN.{length}
 use lib.Dec.{eqb}
 use Rattle.words.specs.declared.ByteOrder.{ByteOrder}
 use Rattle.words.specs.Choice.{if}
 use Rattle.words.specs.Refusal.{table_long_number, table_cut_number}
-use Rattle.boot_table.specs.declared.Step.TheVariants.{Section, End, Fault}
-use Rattle.boot_table.specs.Table.{Sect, Reading, next_of, step_at, section_at, before, read_on, reading}
+use Rattle.std.specs.Prelude.{Option, Some, None}
+use Rattle.boot_table.specs.Table.{Section, End, Fault, Sect, Reading, next_of, step_at, section_at, before, read_on, reading}
 use Rattle.boot_table.specs.Form.{table_limit}
 use Rattle.boot_table.specs.Meaning.{covers}
 use Rattle.boot_table.specs.Walk.{tally}
@@ -21,21 +21,18 @@ use Rattle.boot_table.proofs.StepLaws.{IsSection, section_of, length_body, next_
 use Rattle.boot_table.proofs.ReadLaws.{read_section, read_end, read_fault}
 use Rattle.boot_table.proofs.FormLaws.{form_long, form_cut, form_start}
 use Rattle.query.specs.declared.Hit.{Hit}
-use Rattle.query.specs.declared.Hit.TheVariants.{Nowhere, At}
-use Rattle.query.specs.declared.Walk.{Walk}
-use Rattle.query.specs.declared.Walk.TheVariants.{Whole, Faulty}
-use Rattle.query.specs.Find.{hit_of, latest, passing, walk_from, header_walk, walked}
+use Rattle.query.specs.Find.{Walk, Whole, Faulty, hit_of, latest, passing, walk_from, header_walk, walked}
 use Rattle.query.specs.OneSection.{hit_in}
 
 -- ---- the later of two hits
 
-pub latest_none : (h : Hit) → latest Nowhere h ≡ h
-latest_none Nowhere = refl
-latest_none (At offset size) = refl
+pub latest_none : (h : Option Hit) → latest None h ≡ h
+latest_none None = refl
+latest_none (Some hit) = refl
 
-pub latest_latest : (x y z : Hit) → latest x (latest y z) ≡ latest (latest x y) z
-latest_latest x y Nowhere = refl
-latest_latest x y (At offset size) = refl
+pub latest_latest : (x y z : Option Hit) → latest x (latest y z) ≡ latest (latest x y) z
+latest_latest x y None = refl
+latest_latest x y (Some hit) = refl
 
 -- ---- the hit in a section
 
@@ -49,16 +46,36 @@ pub hit_in_lem : (o : ByteOrder) (t : List ℕ) (at : ℕ) {address size start n
 unfolding hit_of hit_in covers
 hit_in_lem o t at {address} {size} i a = rw (section_address t at address size, length_body o t at i, i.start_is) refl
 
+-- how far an address a is past the first one of a section of size bytes, which is not past the top, modulo 2^32: an address that
+-- the section does not cover is its size or more past it
+module _ (first size start a : ℕ) (top : first + size ≤ 2 ^ 32) (word : a < 2 ^ 32) where
+  abbrev past : ℕ
+  past = (2 ^ 32 + a - first) % 2 ^ 32
+
+  pub not_covered : size ≤ past → hit_in first size start a ≡ None
+  unfolding hit_in
+  not_covered h =
+      by_cases (dec_le first a)
+      (λ k. simp (le-leb first a k, le-ltb a (first + size) (omega arith)))
+      (λ n. simp (lt-leb first a (omega arith)))
+
+  pub covered : past < size → hit_in first size start a ≡ Some (record { offset = start + past; length = size - past })
+  unfolding hit_in
+  covered h =
+      let k : first ≤ a = omega arith in
+      let e : past ≡ a - first = omega arith in
+      rw e (simp (le-leb first a k, lt-ltb a (first + size) (omega arith)))
+
 -- ---- the walk
 
 -- what a walk comes to that has a hit and has read so many bytes, where r is what reading on from offset at finds
-unfoldable pub resume : ℕ → Hit → ℕ → ℕ → Reading → Walk
+unfoldable pub resume : ℕ → Option Hit → ℕ → ℕ → Reading → Walk
 resume a hit read at r =
     if (eqb r.fault 0) (Whole (latest hit (walk_from at r.sections a).hit) (read + (walk_from at r.sections a).read))
     (Faulty r.fault r.place)
 
 -- a section was passed
-resume_before : (a : ℕ) (hit : Hit) (read at : ℕ) (s : Sect) (r : Reading)
+resume_before : (a : ℕ) (hit : Option Hit) (read at : ℕ) (s : Sect) (r : Reading)
     → resume a hit read at (before s r) ≡ resume a (latest hit (hit_of at s a)) (read + 8) (next_of at (length s.body)) r
 unfolding resume before walk_from passing
 resume_before a hit read at s r =
@@ -78,14 +95,14 @@ module _ (o : ByteOrder) (t : List ℕ) (a : ℕ) where
   walk_cut h k = rw (form_cut o t h k) refl
 
   -- the walk begins behind the entry word, with no hit and nothing read
-  pub walk_start : length t ≤ table_limit → 4 ≤ length t → walked o t a ≡ resume a Nowhere 0 4 (read_on o t 4)
+  pub walk_start : length t ≤ table_limit → 4 ≤ length t → walked o t a ≡ resume a None 0 4 (read_on o t 4)
   unfolding walked resume tally header_walk reading
   walk_start h k =
       by_cases (ℕ_discrete (read_on o t 4).fault 0)
       (λ z. rw (form_start o t h k) (simp (eq-eqb _ _ z, le-ltb _ _ k, latest_none, zero-add)))
       (λ n. rw (form_start o t h k) (simp (ne_eqb _ _ n)))
 
-  module _ (hit : Hit) (read at : ℕ) where
+  module _ (hit : Option Hit) (read at : ℕ) where
     -- a section is passed
     pub walk_section : {address size start next : ℕ} → step_at o t at ≡ Section address size start next
         → resume a hit read at (read_on o t at) ≡ resume a (latest hit (hit_in address size start a)) (read + 8) next (read_on o t next)

@@ -4,8 +4,7 @@ use Rattle.words.specs.declared.ByteOrder.{ByteOrder}
 use Rattle.boot_table.specs.Table.{Sect, next_of, reading}
 use Rattle.boot_table.specs.Form.{WellFormed}
 use Rattle.boot_table.specs.Meaning.{covers, times}
-use Rattle.query.specs.declared.Found.{Found}
-use Rattle.query.specs.Find.{find_answer, chosen, part_bytes, part_start}
+use Rattle.query.specs.Find.{FindAnswer, find_answer, chosen, part_bytes, part_start}
 
 -- no section covers the address
 abbrev pub Uncovered : List Sect → ℕ → Type 0
@@ -28,12 +27,12 @@ pub record LastCovers (at : ℕ) (ss : List Sect) (a offset : ℕ) (bytes : List
   pub bytes_are : bytes ≡ drop (a - section.address) section.body
 
 -- r tells of no part: the part is the empty one at the older's start
-pub record NoPart (older newer : List ℕ) (r : Found) : Type 0 where
+pub record NoPart (older newer : List ℕ) (r : FindAnswer) : Type 0 where
   pub bytes : part_bytes r older newer ≡ []
   pub start : (p q : ℕ × ℕ) → part_start r p q ≡ p
 
 -- what an answer says that is no refusal
-pub record Says (o : ByteOrder) (older newer : List ℕ) (a : ℕ) (r : Found) : Type 0 where
+pub record Says (o : ByteOrder) (older newer : List ℕ) (a : ℕ) (r : FindAnswer) : Type 0 where
   -- table 2: the part is the data, from the byte for the address on, of the newer table's last section that covers it
   pub in_newer : r.table ≡ 2 → LastCovers 4 (reading o newer).sections a r.offset (part_bytes r older newer)
   -- table 1: no section of the newer table covers it, and the part is the older's
@@ -51,7 +50,7 @@ pub record Says (o : ByteOrder) (older newer : List ℕ) (a : ℕ) (r : Found) :
   pub count : r.read ≡ 8 * (length (reading o older).sections + length (reading o newer).sections) + 4 + 4
 
 -- what a refusal says: it speaks of one of the tables, offset, length and count are zero, and there is no part
-pub record Refuses (older newer : List ℕ) (r : Found) : Type 0 where
+pub record Refuses (older newer : List ℕ) (r : FindAnswer) : Type 0 where
   pub table : (1 ≤ r.table) × (r.table ≤ 2)
   pub zero : (r.offset ≡ 0) × (r.length ≡ 0) × (r.read ≡ 0)
   pub none : NoPart older newer r

@@ -1,5 +1,5 @@
 -- Laws of a map's first fault: what the search for it finds, and what holds of a map that has none.
-use mathlib.Core.Path.{◌≡◌, refl, ap, ◌∙◌}
+use mathlib.Core.Path.{◌≡◌, refl, sym, ap, ◌∙◌}
 use mathlib.Core.List.{List}
 use mathlib.Core.Bool.{Bool, true, false, not, ◌&&◌, ◌||◌}
 use Prim.Native.Nat.{ℕ, zero, suc, ◌+◌, ◌-◌, ◌%◌, ◌^◌, ◌≤◌, ◌<◌}
@@ -8,25 +8,20 @@ use native.Mathlib.Decide.{ℕ_discrete}
 use native.Mathlib.Omega.{arith}
 use lib.ListN.{length}
 use lib.Dec.{ltb, leb, eqb}
-use borrow.Author.Tests.{lt-ltb, le-ltb, lt-leb, le-leb, leb-true, not-true}
+use borrow.Author.Tests.{lt-ltb, le-ltb, leb-true, not-true}
 use Rattle.words.specs.Choice.{if}
-use Rattle.words.proofs.ChoiceLaws.{both_ways, and_yes, and_no, or_no, if_split}
-use Rattle.region_map.specs.declared.records.MapFault.{MapFault}
-use Rattle.region_map.specs.declared.records.MapFault.TheVariants.{Sound, Length, Record}
+use Rattle.words.proofs.ChoiceLaws.{both_ways, and_yes, and_no, or_no, if_split, if_both}
+use Rattle.words.proofs.RefusalLaws.{number_some}
+use Rattle.words.specs.Refusal.{number_of}
+use Rattle.words.specs.declared.refusal.Refusal.{Refusal}
+use Rattle.words.specs.declared.refusal.Refusal.TheVariants.{MapLength, MapRecord}
+use Rattle.std.specs.Prelude.{Option, Some, None}
+use Rattle.std.proofs.lemmas.Option.{none-some}
 use Rattle.region_map.specs.Map.{record_size, map_limit, count, marked, permitted, known, zeroed, first_at, length_at, end_at, shares, shares_any, sound_at, fault_from, map_fault, SoundMap, memory_size, fault_answer, map_answer}
 use Rattle.region_map.specs.Search.{Within}
-use Rattle.region_map.proofs.RecordLaws.{HeldBy, last}
+use Rattle.region_map.proofs.RecordLaws.{HeldBy}
 
--- record i shares an address with the last of n records, or with one before it
-pub shares_at : (m : List ℕ) (i n : ℕ) → 0 < n → true ≡ (permitted m (n - 1) && shares m i (n - 1)) → true ≡ shares_any m i n
-unfolding shares_any
-shares_at m i n k e = rw (last n k) (simp (← e))
-
-pub shares_no : (m : List ℕ) (i n : ℕ) → 0 < n → false ≡ (permitted m (n - 1) && shares m i (n - 1)) → shares_any m i n ≡ shares_any m i (n - 1)
-unfolding shares_any
-shares_no m i n k e = ap (λ (x : ℕ). shares_any m i x) (last n k) ∙ simp (← e)
-
--- it shares none with permitted ones that all lie below it, or all above it
+-- record i shares no address with permitted ones that all lie below it, or all above it
 module _ (m : List ℕ) (i : ℕ) where
   shares_apart : (n : ℕ) → ((j : ℕ) → j < n → permitted m j ≡ true → shares m i j ≡ false) → shares_any m i n ≡ false
   unfolding shares_any
@@ -46,68 +41,7 @@ module _ (m : List ℕ) (i : ℕ) where
   shares_above n low high w h =
       shares_apart n (λ j l p. and_no (ltb (first_at m i) (end_at m j)) (ltb (first_at m j) (end_at m i)) (le-ltb (first_at m j) (end_at m i) (omega (arith, w.above j l p))))
 
--- the span of n records, with one more
-pub within_no : (m : List ℕ) (n low high : ℕ) → Within m n low high → permitted m n ≡ false → Within m (n + 1) low high
-within_no m n low high w e = record { above = λ i l p. (go i l p).0; below = λ i l p. (go i l p).1 }
-  where
-    go : (i : ℕ) → i < n + 1 → permitted m i ≡ true → (low ≤ first_at m i) × (end_at m i ≤ high)
-    go i l p = split (ℕ_discrete i n)
-      where
-        split : Dec (i ≡ n) → (low ≤ first_at m i) × (end_at m i ≤ high)
-        split (yes q) = absurd (both_ways (permitted m n) (rw q at p) e)
-        split (no q) = (w.above i (omega arith) p, w.below i (omega arith) p)
-
-pub within_yes : (m : List ℕ) (n low high l h : ℕ) → Within m n low high → l ≤ low → l ≤ first_at m n → high ≤ h → end_at m n ≤ h → Within m (n + 1) l h
-within_yes m n low high l h w a b c d = record { above = λ i k p. (go i k p).0; below = λ i k p. (go i k p).1 }
-  where
-    go : (i : ℕ) → i < n + 1 → permitted m i ≡ true → (l ≤ first_at m i) × (end_at m i ≤ h)
-    go i k p = split (ℕ_discrete i n)
-      where
-        split : Dec (i ≡ n) → (l ≤ first_at m i) × (end_at m i ≤ h)
-        split (yes q) = rw q (b, d)
-        split (no q) = (omega (arith, w.above i (omega arith) p), omega (arith, w.below i (omega arith) p))
-
--- a record that breaks a rule is not sound, and one that keeps those before the last is sound just where it keeps the last
-module _ (m : List ℕ) (i : ℕ) where
-  pub not_marked : marked m i ≡ false → sound_at m i ≡ false
-  unfolding sound_at
-  not_marked e = rw e
-
-  pub not_known : known m i ≡ false → sound_at m i ≡ false
-  unfolding sound_at
-  not_known e = rw (and_no (marked m i) (known m i) e)
-
-  pub not_zeroed : zeroed m i ≡ false → sound_at m i ≡ false
-  unfolding sound_at
-  not_zeroed e = rw (and_no (marked m i && known m i) (zeroed m i) e)
-
-  pub no_length : length_at m i < 1 → sound_at m i ≡ false
-  unfolding sound_at
-  no_length h =
-      rw
-      (and_no
-      (marked m i && known m i && zeroed m i)
-      (leb 1 (length_at m i))
-      (lt-leb 1 (length_at m i) h))
-
-  pub past_top : 2 ^ 32 < end_at m i → sound_at m i ≡ false
-  unfolding sound_at
-  past_top h =
-      rw
-      (and_no
-      (marked m i && known m i && zeroed m i && leb 1 (length_at m i))
-      (leb (end_at m i) (2 ^ 32))
-      (lt-leb (end_at m i) (2 ^ 32) h))
-
-  pub sound_last : marked m i ≡ true → known m i ≡ true → zeroed m i ≡ true → 1 ≤ length_at m i → end_at m i ≤ 2 ^ 32 → sound_at m i ≡ not (permitted m i && shares_any m i i)
-  unfolding sound_at
-  sound_last a b c l e = rw (a, b, c, le-leb 1 (length_at m i) l, le-leb (end_at m i) (2 ^ 32) e)
-
--- the first fault among n records: record i, or one after it
-pub fault_at : (m : List ℕ) (n i : ℕ) → i < n → false ≡ sound_at m i → Record i ≡ fault_from m (n - i) i
-unfolding fault_from
-fault_at m n i h e = let k : n - i ≡ suc (n - (i + 1)) = omega arith in rw k (simp (← e))
-
+-- the first fault among n records is one after record i, if that is sound
 pub fault_no : (m : List ℕ) (n i : ℕ) → i < n → true ≡ sound_at m i → fault_from m (n - i) i ≡ fault_from m (n - (i + 1)) (i + 1)
 unfolding fault_from
 fault_no m n i h e =
@@ -115,15 +49,15 @@ fault_no m n i h e =
     ap (λ (x : ℕ). fault_from m x i) k ∙ simp (← e, add-one)
 
 -- a choice that came out sound
-if_sound : (b : Bool) (f g : MapFault) → (g ≡ Sound → ⊥) → if b f g ≡ Sound → (b ≡ true) × (f ≡ Sound)
-if_sound b f g n e = if_split b f g Sound e (λ p q. (p, q)) (λ p q. absurd (n q))
+if_sound : (b : Bool) (f : Option Refusal) (r : Refusal) → if b f (Some r) ≡ None → (b ≡ true) × (f ≡ None)
+if_sound b f r e = if_split b f (Some r) None e (λ p q. (p, q)) (λ p q. absurd (none-some r (sym q)))
 
 -- each of n records with no fault is sound
-sound_from : (m : List ℕ) (n i j : ℕ) → fault_from m n i ≡ Sound → i ≤ j → j < i + n → sound_at m j ≡ true
+sound_from : (m : List ℕ) (n i j : ℕ) → fault_from m n i ≡ None → i ≤ j → j < i + n → sound_at m j ≡ true
 unfolding fault_from
 sound_from m zero i j e l u = absurd (omega arith)
 sound_from m (suc n) i j e l u =
-    let q = if_sound (sound_at m i) (fault_from m n (suc i)) (Record i) (λ f. let z : ◌≡◌ {A = ℕ} 0 1 = cc in omega arith) e in
+    let q = if_sound (sound_at m i) (fault_from m n (suc i)) (MapRecord i) e in
     go (ℕ_discrete i j) q.0 (λ k. sound_from m n (suc i) j q.1 k (omega arith))
   where
     go : Dec (i ≡ j) → sound_at m i ≡ true → (suc i ≤ j → sound_at m j ≡ true) → sound_at m j ≡ true
@@ -144,9 +78,9 @@ shares_each m i (suc n) j e u =
 
 -- what holds of a sound map
 module _ (m : List ℕ) (sound : SoundMap m) where
-  sound_both : ((eqb (length m % record_size) 0 && leb (length m) map_limit) ≡ true) × (fault_from m (count m) 0 ≡ Sound)
+  sound_both : ((eqb (length m % record_size) 0 && leb (length m) map_limit) ≡ true) × (fault_from m (count m) 0 ≡ None)
   unfolding map_fault
-  sound_both = if_sound (eqb (length m % record_size) 0 && leb (length m) map_limit) (fault_from m (count m) 0) Length (λ f. let z : ◌≡◌ {A = ℕ} 0 1 = cc in omega arith) sound
+  sound_both = if_sound (eqb (length m % record_size) 0 && leb (length m) map_limit) (fault_from m (count m) 0) MapLength sound
 
   pub sound_length : length m ≤ map_limit
   sound_length = leb-true (length m) map_limit (and_yes (eqb (length m % record_size) 0) (leb (length m) map_limit) sound_both.0).1
@@ -175,11 +109,28 @@ pub answer_sound : (m : List ℕ) → (map_answer m).number ≡ 0 → SoundMap m
 unfolding map_answer fault_answer
 answer_sound m e = go (map_fault m) e
   where
-    go : (f : MapFault) → (fault_answer m f).number ≡ 0 → f ≡ Sound
-    go Sound e = refl
-    go Length e = absurd (omega arith)
-    go (Record i) e = absurd (omega arith)
+    go : (f : Option Refusal) → (fault_answer m f).number ≡ 0 → f ≡ None
+    go None e = refl
+    go (Some r) e = absurd (number_some r e)
 
 pub sound_answer : (m : List ℕ) → SoundMap m → map_answer m ≡ record { number = 0; place = 0; bytes = memory_size m }
 unfolding map_answer fault_answer
 sound_answer m e = ap (fault_answer m) e
+
+-- the number of a map's answer is at most 2
+Few : Option Refusal → Type 0
+Few None = ℕ
+Few (Some r) = number_of r ≤ 2
+
+few_from : (m : List ℕ) (n i : ℕ) → Few (fault_from m n i)
+unfolding fault_from Few
+few_from m zero i = 0
+few_from m (suc n) i = if_both Few (sound_at m i) _ _ (few_from m n (suc i)) (omega arith)
+
+pub map_few : (m : List ℕ) → (map_answer m).number ≤ 2
+unfolding map_answer map_fault fault_answer Few
+map_few m = go (map_fault m) (if_both Few (eqb (length m % record_size) 0 && leb (length m) map_limit) _ _ (few_from m (count m) 0) (omega arith))
+  where
+    go : (f : Option Refusal) → Few f → (fault_answer m f).number ≤ 2
+    go None h = omega arith
+    go (Some r) h = h

@@ -6,8 +6,8 @@ use mathlib.Core.Bool.{Bool, true, false, not, ◌&&◌, ◌||◌}
 use native.Mathlib.Omega.{arith}
 use lib.Dec.{leb}
 use Rattle.words.specs.Choice.{if}
-use Rattle.region_map.specs.declared.addresses.Found.{Found}
-use Rattle.region_map.specs.declared.addresses.Found.TheVariants.{Nothing, Index}
+use Rattle.std.specs.Prelude.{Option}
+use Rattle.std.specs.Prelude.{Some, None}
 use Rattle.region_map.specs.Map.{count, marked, is_kind, permitted, reserved, one_write, known, zeroed, length_at, end_at, holds, shares, shares_any, sound_at, any_holds, is_open, once, size_before, holder}
 use Rattle.region_map.specs.Search.{lowest_from}
 use Rattle.region_map.proofs.OpenLaws.{lowest_each, lowest_held}
@@ -38,9 +38,9 @@ unfoldable pub lengths_of : (ℕ → Bool) → List ℕ → ℕ → ℕ
 lengths_of kind m zero = 0
 lengths_of kind m (suc i) = lengths_of kind m i + if (kind i) (length_at m i) 0
 
-unfoldable pub holder_of : (ℕ → Bool) → List ℕ → ℕ → ℕ → Found
-holder_of kind m zero a = Nothing
-holder_of kind m (suc i) a = if (kind i && holds m i a) (Index i) (holder_of kind m i a)
+unfoldable pub holder_of : (ℕ → Bool) → List ℕ → ℕ → ℕ → Option ℕ
+holder_of kind m zero a = None
+holder_of kind m (suc i) a = if (kind i && holds m i a) (Some i) (holder_of kind m i a)
 
 unfoldable pub shares_of : (ℕ → Bool) → List ℕ → ℕ → ℕ → Bool
 shares_of kind m i zero = false

@@ -11,8 +11,8 @@ use lib.Dec.{ltb}
 use borrow.Author.Tests.{lt-ltb, le-ltb, ltb-true, ltb-false}
 use Rattle.words.specs.Choice.{if}
 use Rattle.words.proofs.ChoiceLaws.{both_ways, and_yes, and_no, or_yes, if_split, if_both, if_cases}
-use Rattle.region_map.specs.declared.addresses.Found.{Found}
-use Rattle.region_map.specs.declared.addresses.Found.TheVariants.{Nothing, Index}
+use Rattle.std.specs.Prelude.{Option}
+use Rattle.std.specs.Prelude.{Some, None}
 use Rattle.region_map.specs.Map.{count, permitted, reserved, first_at, end_at, holds, any_holds, is_open, closed_from, holder}
 use Rattle.region_map.specs.Search.{touching_before, touching_after, until_of, permitted_until, lowest_in, lowest_from}
 use Rattle.region_map.proofs.RecordLaws.{HeldBy, last, holds_below, holds_above, holds_yes, holds_only, held_any, held_more, holder_only, holder_none}
@@ -32,12 +32,12 @@ module _ (m : List ℕ) (x : ℕ) where
   open_reserved e = and_no (any_holds (permitted m) m (count m) x) (not (any_holds (reserved m) m (count m) x)) (rw e)
 
   -- a permitted record holds an open address
-  pub open_holder : is_open m x ≡ true → (i : ℕ) × (holder m (count m) x ≡ Index i)
+  pub open_holder : is_open m x ≡ true → (i : ℕ) × (holder m (count m) x ≡ Some i)
   open_holder e = go (holder m (count m) x) refl
     where
-      go : (f : Found) → holder m (count m) x ≡ f → (i : ℕ) × (f ≡ Index i)
-      go Nothing q = absurd (both_ways (is_open m x) e (open_not (holder_none m (count m) x q)))
-      go (Index i) q = (i, refl)
+      go : (f : Option ℕ) → holder m (count m) x ≡ f → (i : ℕ) × (f ≡ Some i)
+      go None q = absurd (both_ways (is_open m x) e (open_not (holder_none m (count m) x q)))
+      go (Some i) q = (i, refl)
 
 -- ---- how far a record permits, and how far none reserves
 
@@ -73,13 +73,13 @@ held_after m zero i a k = (omega arith, λ x l u. absurd (omega arith))
 held_after m (suc n) i a k = held_if m i a (touching_after m n (suc i) (end_at m i)) (omega arith) (held_after m n (suc i) (end_at m i) (omega arith))
 
 -- by the record that holds a, and on through those beside it
-held_until : (m : List ℕ) (a i : ℕ) → HeldBy m (count m) a i → (end_at m i ≤ until_of m a (Index i)) × Held m a (until_of m a (Index i))
+held_until : (m : List ℕ) (a i : ℕ) → HeldBy m (count m) a i → (end_at m i ≤ until_of m a (Some i)) × Held m a (until_of m a (Some i))
 held_until m a i h =
     let k = h.few in
     let b = held_before m i (end_at m i) (omega arith) in
     let c = held_after m (count m - suc i) (suc i) (touching_before m i (end_at m i)) (omega arith) in
-    let o = held_on m (end_at m i) (touching_before m i (end_at m i)) (until_of m a (Index i)) b c in
-    (o.0, held_on m a (end_at m i) (until_of m a (Index i)) (held_by m i a h) o)
+    let o = held_on m (end_at m i) (touching_before m i (end_at m i)) (until_of m a (Some i)) b c in
+    (o.0, held_on m a (end_at m i) (until_of m a (Some i)) (held_by m i a h) o)
 
 module _ (m : List ℕ) (a : ℕ) where
   -- the addresses up to where records permit them are permitted
@@ -87,18 +87,18 @@ module _ (m : List ℕ) (a : ℕ) where
   unfolding permitted_until
   permitted_each x l u = go (holder m (count m) a) refl u
     where
-      go : (f : Found) → holder m (count m) a ≡ f → x < until_of m a f → any_holds (permitted m) m (count m) x ≡ true
-      go Nothing e k = absurd (omega arith)
-      go (Index i) e k = (held_until m a i (holder_only m (count m) a i e)).1.1 x l k
+      go : (f : Option ℕ) → holder m (count m) a ≡ f → x < until_of m a f → any_holds (permitted m) m (count m) x ≡ true
+      go None e k = absurd (omega arith)
+      go (Some i) e k = (held_until m a i (holder_only m (count m) a i e)).1.1 x l k
 
   -- and where these are none, a is not
   pub permitted_not : permitted_until m a ≤ a → any_holds (permitted m) m (count m) a ≡ false
   unfolding permitted_until
   permitted_not u = go (holder m (count m) a) refl u
     where
-      go : (f : Found) → holder m (count m) a ≡ f → until_of m a f ≤ a → any_holds (permitted m) m (count m) a ≡ false
-      go Nothing e k = holder_none m (count m) a e
-      go (Index i) e k = let h = holder_only m (count m) a i e in absurd (omega (arith, h.high, (held_until m a i h).0))
+      go : (f : Option ℕ) → holder m (count m) a ≡ f → until_of m a f ≤ a → any_holds (permitted m) m (count m) a ≡ false
+      go None e k = holder_none m (count m) a e
+      go (Some i) e k = let h = holder_only m (count m) a i e in absurd (omega (arith, h.high, (held_until m a i h).0))
 
 -- ---- the lowest address from a on in a record of a kind
 

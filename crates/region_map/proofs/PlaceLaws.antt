@@ -6,8 +6,8 @@ use Prim.Native.Nat.{ℕ, ◌+◌, ◌-◌, ◌≤◌, ◌<◌}
 use native.Mathlib.Decide.{ℕ_discrete, dec_lt}
 use native.Mathlib.Omega.{arith}
 use Rattle.words.proofs.ChoiceLaws.{both_ways}
-use Rattle.region_map.specs.declared.addresses.Found.TheVariants.{Nothing, Index}
-use Rattle.region_map.specs.declared.addresses.Found.{Found}
+use Rattle.std.specs.Prelude.{Some, None}
+use Rattle.std.specs.Prelude.{Option}
 use Rattle.region_map.specs.Map.{count, permitted, first_at, any_holds, SoundMap, size_before, memory_size, is_open, holder, place_in, place_of}
 use Rattle.region_map.specs.Search.{region_in, region_of, Places}
 use Rattle.region_map.proofs.RecordLaws.{HeldBy, held_among, held_any, holder_only, holder_none, size_more}
@@ -15,7 +15,7 @@ use Rattle.region_map.proofs.FaultLaws.{sound_apart}
 use Rattle.region_map.proofs.OpenLaws.{open_holder}
 
 -- the place of an address by the record that is found for it
-pub place_found : (m : List ℕ) (a i : ℕ) → holder m (count m) a ≡ Index i → place_of m a ≡ size_before m i + (a - first_at m i)
+pub place_found : (m : List ℕ) (a i : ℕ) → holder m (count m) a ≡ Some i → place_of m a ≡ size_before m i + (a - first_at m i)
 unfolding place_of
 place_found m a i e = ap (place_in m a) e
 
@@ -71,18 +71,18 @@ module _ (m : List ℕ) (sound : SoundMap m) where
   pub place_is : (i x : ℕ) → HeldBy m (count m) x i → place_of m x ≡ size_before m i + (x - first_at m i)
   place_is i x p = go (holder m (count m) x) refl
     where
-      go : (f : Found) → holder m (count m) x ≡ f → place_of m x ≡ size_before m i + (x - first_at m i)
-      go Nothing e = absurd (both_ways (any_holds (permitted m) m (count m) x) (held_any m (count m) x i p) (holder_none m (count m) x e))
-      go (Index j) e = let u : j ≡ i = one x j i (holder_only m (count m) x j e) p in rw u at (place_found m x j e)
+      go : (f : Option ℕ) → holder m (count m) x ≡ f → place_of m x ≡ size_before m i + (x - first_at m i)
+      go None e = absurd (both_ways (any_holds (permitted m) m (count m) x) (held_any m (count m) x i p) (holder_none m (count m) x e))
+      go (Some j) e = let u : j ≡ i = one x j i (holder_only m (count m) x j e) p in rw u at (place_found m x j e)
 
   -- the addresses of a region have their places in a row, inside memory
   pub region_places : (a : ℕ) → Places m (region_of m a)
   unfolding region_of
   region_places a = go (holder m (count m) a) refl
     where
-      go : (f : Found) → holder m (count m) a ≡ f → Places m (region_in m f)
-      go Nothing e = record { row = λ x l u. absurd (omega arith); inside = omega arith }
-      go (Index i) e =
+      go : (f : Option ℕ) → holder m (count m) a ≡ f → Places m (region_in m f)
+      go None e = record { row = λ x l u. absurd (omega arith); inside = omega arith }
+      go (Some i) e =
           let h = holder_only m (count m) a i e in
           let g = size_more m (count m) i h.few h.kind in
           record { row = λ x l u. place_is i x (record { few = h.few; kind = h.kind; low = l; high = u }); inside = omega arith }

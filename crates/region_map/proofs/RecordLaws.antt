@@ -10,8 +10,9 @@ use lib.Dec.{ltb, leb}
 use borrow.Author.Tests.{lt-ltb, le-ltb, lt-leb, le-leb, ltb-true, leb-true}
 use Rattle.words.specs.Choice.{if}
 use Rattle.words.proofs.ChoiceLaws.{and_yes, and_no, or_yes, if_split}
-use Rattle.region_map.specs.declared.addresses.Found.TheVariants.{Nothing, Index}
-use Rattle.region_map.specs.Search.{touching_before, touching_after}
+use Rattle.std.specs.Prelude.{Some, None}
+use Rattle.std.proofs.lemmas.Option.{none-some}
+use Rattle.region_map.specs.Search.{touching_after}
 use Rattle.region_map.specs.Map.{permitted, first_at, length_at, end_at, holds, any_holds, holder, size_before}
 
 -- some records are those before the last, and the last
@@ -48,39 +49,11 @@ any_yes kind m (suc n) i a k e = go (ℕ_discrete i n) (λ l. any_yes kind m n i
     go (yes q) ih = let w : (kind n && holds m n a) ≡ true = rw (← q) e in rw w
     go (no q) ih = or_yes (kind n && holds m n a) (any_holds kind m n a) (ih (omega arith))
 
--- the permitted record that holds a: the last of n, or one before it
-pub holder_at : (m : List ℕ) (n a : ℕ) → 0 < n → true ≡ (permitted m (n - 1) && holds m (n - 1) a) → Index (n - 1) ≡ holder m n a
-unfolding holder
-holder_at m n a k e =
-    ap (λ (b : Bool). if b (Index (n - 1)) (holder m (n - 1) a)) e ∙ ap (λ (x : ℕ). holder m x a) (sym (last n k))
-
-pub holder_no : (m : List ℕ) (n a : ℕ) → 0 < n → false ≡ (permitted m (n - 1) && holds m (n - 1) a) → holder m n a ≡ holder m (n - 1) a
-unfolding holder
-holder_no m n a k e = ap (λ (x : ℕ). holder m x a) (last n k) ∙ simp (← e)
-
--- how far the records before n permit from a on: the last of them decides
-pub before_yes : (m : List ℕ) (n a : ℕ) → 0 < n → true ≡ (permitted m (n - 1) && holds m (n - 1) a)
-    → touching_before m n a ≡ touching_before m (n - 1) (end_at m (n - 1))
-unfolding touching_before
-before_yes m n a k e = ap (λ (x : ℕ). touching_before m x a) (last n k) ∙ simp (← e)
-
-pub before_no : (m : List ℕ) (n a : ℕ) → 0 < n → false ≡ (permitted m (n - 1) && holds m (n - 1) a) → touching_before m n a ≡ a
-unfolding touching_before
-before_no m n a k e = ap (λ (x : ℕ). touching_before m x a) (last n k) ∙ simp (← e)
-
--- and those from i up to n: record i decides
+-- how far the records from i up to n permit from a on, where record i holds a
 pub after_yes : (m : List ℕ) (n i a : ℕ) → i < n → true ≡ (permitted m i && holds m i a)
     → touching_after m (n - i) i a ≡ touching_after m (n - (i + 1)) (i + 1) (end_at m i)
 unfolding touching_after
 after_yes m n i a k e = let l : n - i ≡ suc (n - (i + 1)) = omega arith in ap (λ (x : ℕ). touching_after m x i a) l ∙ simp (← e, add-one)
-
-pub after_no : (m : List ℕ) (n i a : ℕ) → i < n → false ≡ (permitted m i && holds m i a) → touching_after m (n - i) i a ≡ a
-unfolding touching_after
-after_no m n i a k e = let l : n - i ≡ suc (n - (i + 1)) = omega arith in ap (λ (x : ℕ). touching_after m x i a) l ∙ simp (← e)
-
--- what is not found is not at i
-found_not : (i : ℕ) → Nothing ≡ Index i → ⊥
-found_not i e = let z : ◌≡◌ {A = ℕ} 0 1 = cc in omega arith
 
 -- record i is one of the first n, is permitted, and holds a
 pub record HeldBy (m : List ℕ) (n a i : ℕ) : Type 0 where
@@ -102,11 +75,11 @@ pub held_any : (m : List ℕ) (n a i : ℕ) → HeldBy m n a i → any_holds (pe
 held_any m n a i h = any_yes (permitted m) m n i a h.few (rw h.kind (holds_yes m i a h.low h.high))
 
 -- the record that is found is such a one
-pub holder_only : (m : List ℕ) (n a i : ℕ) → holder m n a ≡ Index i → HeldBy m n a i
+pub holder_only : (m : List ℕ) (n a i : ℕ) → holder m n a ≡ Some i → HeldBy m n a i
 unfolding holder
-holder_only m zero a i e = absurd (found_not i e)
+holder_only m zero a i e = absurd (none-some i e)
 holder_only m (suc n) a i e =
-    if_split (permitted m n && holds m n a) (Index n) (holder m n a) (Index i) e
+    if_split (permitted m n && holds m n a) (Some n) (holder m n a) (Some i) e
     (λ q f.
     let w : n ≡ i = cc in
     let p = and_yes (permitted m n) (holds m n a) q in
@@ -114,26 +87,21 @@ holder_only m (suc n) a i e =
     record { few = omega arith; kind = rw w at p.0; low = h.0; high = h.1 })
     (λ q f. let h = holder_only m n a i f in held_among m n (suc n) a i h (omega (arith, h.few)))
 
+-- it is one of them, and so one of them holds a
+pub holder_few : (m : List ℕ) (n a i : ℕ) → holder m n a ≡ Some i → i < n
+holder_few m n a i e = (holder_only m n a i e).few
+
+pub holder_any : (m : List ℕ) (n a i : ℕ) → holder m n a ≡ Some i → any_holds (permitted m) m n a ≡ true
+holder_any m n a i e = held_any m n a i (holder_only m n a i e)
+
 -- where none is found none holds a
-pub holder_none : (m : List ℕ) (n a : ℕ) → holder m n a ≡ Nothing → any_holds (permitted m) m n a ≡ false
+pub holder_none : (m : List ℕ) (n a : ℕ) → holder m n a ≡ None → any_holds (permitted m) m n a ≡ false
 unfolding holder any_holds
 holder_none m zero a e = refl
 holder_none m (suc n) a e =
-    if_split (permitted m n && holds m n a) (Index n) (holder m n a) Nothing e
-    (λ q f. absurd (found_not n (sym f)))
+    if_split (permitted m n && holds m n a) (Some n) (holder m n a) None e
+    (λ q f. absurd (none-some n (sym f)))
     (λ q f. rw q (holder_none m n a f))
-
--- the permitted lengths up to record i, and with it
-pub size_yes : (m : List ℕ) (i s l : ℕ) → s ≡ size_before m i → true ≡ permitted m i → l ≡ length_at m i → s + l ≡ size_before m (i + 1)
-unfolding size_before
-size_yes m i s l e p z =
-    rw (e, z) (ap (λ (b : Bool). size_before m i + if b (length_at m i) 0) p) ∙ ap (size_before m) (sym (add-one i))
-
-pub size_no : (m : List ℕ) (i s : ℕ) → s ≡ size_before m i → false ≡ permitted m i → s ≡ size_before m (i + 1)
-unfolding size_before
-size_no m i s e p =
-    let none : size_before m i ≡ size_before m i + 0 = omega arith in
-    e ∙ none ∙ ap (λ (b : Bool). size_before m i + if b (length_at m i) 0) p ∙ ap (size_before m) (sym (add-one i))
 
 -- the bytes of a permitted record are among those of all n
 pub size_more : (m : List ℕ) (n i : ℕ) → i < n → permitted m i ≡ true → size_before m i + length_at m i ≤ size_before m n

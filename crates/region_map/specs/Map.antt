@@ -1,14 +1,11 @@
 -- The region map: its records, its first fault, the addresses that it opens, those that take one write, and their places in memory. m is a map.
-use Rattle.std.specs.Prelude.{ℕ, zero, suc, ◌+◌, ◌-◌, ◌*◌, ◌/◌, ◌%◌, ◌^◌, ◌≡◌, List, Bool, false, not, ◌&&◌, ◌||◌, length, get_or, ltb, leb, eqb}
-use Rattle.std.proofs.Math.Option.{Option, none, some}
+use Rattle.std.specs.Prelude.{ℕ, zero, suc, ◌+◌, ◌-◌, ◌*◌, ◌/◌, ◌%◌, ◌^◌, ◌≡◌, List, Bool, false, not, ◌&&◌, ◌||◌, length, get_or, ltb, leb, eqb, Option, Some, None, Result, Ok, Err}
+use Rattle.std.proofs.Math.Option.{Option as Maybe, none, some}
 use Rattle.words.specs.Choice.{if}
 use Rattle.words.specs.Word.{word_at}
-use Rattle.words.specs.Refusal.{map_length_number, map_record_number}
-use Rattle.region_map.specs.declared.records.MapFault.{MapFault}
-use Rattle.region_map.specs.declared.records.MapFault.TheVariants.{Sound, Length, Record}
-use Rattle.region_map.specs.declared.MapAnswer.{MapAnswer}
-use Rattle.region_map.specs.declared.addresses.Found.{Found}
-use Rattle.region_map.specs.declared.addresses.Found.TheVariants.{Nothing, Index}
+use Rattle.words.specs.Refusal.{number_of, place_of as refusal_place}
+use Rattle.words.specs.declared.refusal.Refusal.{Refusal}
+use Rattle.words.specs.declared.refusal.Refusal.TheVariants.{MapLength, MapRecord}
 
 -- ---- records
 
@@ -97,17 +94,17 @@ sound_at m i =
     && not (permitted m i && shares_any m i i)
 
 -- the first of the n records from i on that breaks a rule
-unfoldable pub fault_from : List ℕ → ℕ → ℕ → MapFault
-fault_from m zero i = Sound
-fault_from m (suc n) i = if (sound_at m i) (fault_from m n (suc i)) (Record i)
+unfoldable pub fault_from : List ℕ → ℕ → ℕ → Option Refusal
+fault_from m zero i = None
+fault_from m (suc n) i = if (sound_at m i) (fault_from m n (suc i)) (Some (MapRecord i))
 
 -- the first fault of a map: its length, or a record
-unfoldable pub map_fault : List ℕ → MapFault
-map_fault m = if (eqb (length m % record_size) 0 && leb (length m) map_limit) (fault_from m (count m) 0) Length
+unfoldable pub map_fault : List ℕ → Option Refusal
+map_fault m = if (eqb (length m % record_size) 0 && leb (length m) map_limit) (fault_from m (count m) 0) (Some MapLength)
 
 -- a map with no fault is sound
 abbrev pub SoundMap : List ℕ → Type 0
-SoundMap m = map_fault m ≡ Sound
+SoundMap m = map_fault m ≡ None
 
 -- ---- open addresses
 
@@ -125,7 +122,7 @@ unfoldable pub once : List ℕ → ℕ → Bool
 once m a = any_holds (one_write m) m (count m) a
 
 -- the lowest of the n addresses from a on that is not open, if there is one
-unfoldable pub closed_from : List ℕ → ℕ → ℕ → Option ℕ
+unfoldable pub closed_from : List ℕ → ℕ → ℕ → Maybe ℕ
 closed_from m zero a = none
 closed_from m (suc n) a = if (is_open m a) (closed_from m n (suc a)) (some a)
 
@@ -141,14 +138,14 @@ abbrev pub memory_size : List ℕ → ℕ
 memory_size m = size_before m (count m)
 
 -- the permitted one of the first n records that holds the address a
-unfoldable pub holder : List ℕ → ℕ → ℕ → Found
-holder m zero a = Nothing
-holder m (suc i) a = if (permitted m i && holds m i a) (Index i) (holder m i a)
+unfoldable pub holder : List ℕ → ℕ → ℕ → Option ℕ
+holder m zero a = None
+holder m (suc i) a = if (permitted m i && holds m i a) (Some i) (holder m i a)
 
 -- the permitted lengths before record i, plus the address less the record's first
-abbrev pub place_in : List ℕ → ℕ → Found → ℕ
-place_in m a Nothing = 0
-place_in m a (Index i) = size_before m i + (a - first_at m i)
+abbrev pub place_in : List ℕ → ℕ → Option ℕ → ℕ
+place_in m a None = 0
+place_in m a (Some i) = size_before m i + (a - first_at m i)
 
 -- where in memory the byte for the address a stands
 unfoldable pub place_of : List ℕ → ℕ → ℕ
@@ -156,15 +153,25 @@ place_of m a = place_in m a (holder m (count m) a)
 
 -- ---- judging a map
 
+-- what judging a map answers: a number, which is 0 where the map is sound, a place, and the bytes of memory to lend
+pub record MapAnswer : Type 0 where
+  pub number : ℕ
+  pub place : ℕ
+  pub bytes : ℕ
+
 -- a refusal: its number and place, all else zero
 abbrev pub map_refused : ℕ → ℕ → MapAnswer
 map_refused number place = record { number = number; place = place; bytes = 0 }
 
 -- what judging a map answers: the number and place of its fault, or the permitted sum
-unfoldable pub fault_answer : List ℕ → MapFault → MapAnswer
-fault_answer m Sound = record { number = 0; place = 0; bytes = memory_size m }
-fault_answer m Length = map_refused map_length_number 0
-fault_answer m (Record i) = map_refused map_record_number i
+unfoldable pub fault_answer : List ℕ → Option Refusal → MapAnswer
+fault_answer m None = record { number = 0; place = 0; bytes = memory_size m }
+fault_answer m (Some fault) = map_refused (number_of fault) (refusal_place fault)
 
 unfoldable pub map_answer : List ℕ → MapAnswer
 map_answer m = fault_answer m (map_fault m)
+
+-- the answer that a result of the code stands for
+abbrev pub answer_of : Result ℕ Refusal → MapAnswer
+answer_of (Ok bytes) = record { number = 0; place = 0; bytes = bytes }
+answer_of (Err refusal) = map_refused (number_of refusal) (refusal_place refusal)

@@ -4,11 +4,11 @@
 #![tactic(auto)]
 
 ghost use Rattle.std.specs.Prelude.{◌≡◌};
-ghost use Rattle.region_map.specs.Map.{map_refused, map_answer};
+ghost use Rattle.region_map.specs.Map.{map_answer, answer_of};
 
 use places::memory_size;
-use records::{MapFault, first_fault};
-use words::refusal::{MAP_LENGTH, MAP_RECORD};
+use records::first_fault;
+use words::Refusal;
 
 mod addresses;
 mod places;
@@ -17,35 +17,13 @@ mod records;
 pub use addresses::{is_open, once_from, permitted_until, reserved_from};
 pub use places::{Region, region_of};
 
-// What judging a map answers. The number is 0 where it is sound, and bytes is then the memory to lend.
-#[derive(Clone, Copy)]
-pub struct MapAnswer {
-    pub number: u32,
-    pub place: usize,
-    pub bytes: usize,
-}
-
-fn refused(number: u32, place: usize) -> MapAnswer
-    ensures { result ≡ map_refused number place }
-{
-    MapAnswer {
-        number: number,
-        place: place,
-        bytes: 0,
-    }
-}
-
-// Judges a map: the number and place of its first fault, or the memory that a caller must lend.
-pub fn judge_map(map: &[u8]) -> MapAnswer
-    ensures { result ≡ map_answer map.now }
+// Judges a map: the memory that a caller must lend, or the refusal for its first fault.
+#[tactic(auto, using(crate::proofs::FaultLaws::sound_length), unfolding(crate::specs::Map::map_answer, crate::specs::Map::fault_answer))]
+pub fn judge_map(map: &[u8]) -> Result<usize, Refusal>
+    ensures { answer_of result ≡ map_answer map.now }
 {
     match first_fault(map) {
-        MapFault::Length => refused(MAP_LENGTH, 0),
-        MapFault::Record(i) => refused(MAP_RECORD, i),
-        MapFault::Sound => MapAnswer {
-            number: 0,
-            place: 0,
-            bytes: memory_size(map),
-        },
+        Some(refusal) => Err(refusal),
+        None => Ok(memory_size(map)),
     }
 }

@@ -3,7 +3,7 @@ ghost use Rattle.std.specs.Prelude.{◌≡◌, ◌&&◌, ◌+◌, ◌^◌, ◌<�
 ghost use Rattle.region_map.specs.Map.{
   count,
   marked,
-  kind_at,
+  is_kind,
   permitted,
   reserved,
   known,
@@ -17,9 +17,9 @@ ghost use Rattle.region_map.specs.Map.{
   sound_at,
   map_fault,
 };
-ghost use Rattle.region_map.specs.Search.{Within};
+ghost use Rattle.region_map.specs.Search.{Within, kind_number};
 
-use words::{TOP, higher, lower, word_at};
+use words::{Refusal, TOP, word_at};
 
 // How many bytes a record has.
 pub const RECORD_SIZE: usize = 12;
@@ -33,69 +33,57 @@ const MARK_FIRST: u8 = 0x52;
 const MARK_SECOND: u8 = 0x47;
 
 // The kinds of records. One that takes one write is permitted too.
-const PERMITTED: u8 = 1;
-
-pub const RESERVED: u8 = 2;
-
-pub const ONE_WRITE: u8 = 3;
-
-// What is wrong with a map: nothing, its length, or its first record that breaks a rule.
-#[derive(Clone, Copy)]
-pub enum MapFault {
-    Sound,
-    Length,
-    Record(usize),
+#[derive(Clone, Copy, Debug, PartialEq, Eq)]
+pub enum Kind {
+    Permitted = 1,
+    Reserved = 2,
+    OneWrite = 3,
 }
 
 // ---- records
 
+#[tactic(auto, unfolding(crate::specs::Map::marked))]
 fn is_marked(map: &[u8], i: usize) -> bool
     requires { i < count map.now }
     ensures { result ≡ marked map.now i }
 {
-    if map[RECORD_SIZE * i] != MARK_FIRST {
-        return false;
-    }
-    map[RECORD_SIZE * i + 1] == MARK_SECOND
+    map[RECORD_SIZE * i] == MARK_FIRST && map[RECORD_SIZE * i + 1] == MARK_SECOND
 }
 
-// The kind of record i.
-pub fn kind_at(map: &[u8], i: usize) -> u8
+// Whether record i is of a kind.
+pub fn is_kind(map: &[u8], i: usize, kind: Kind) -> bool
     requires { i < count map.now }
-    ensures { result ≡ kind_at map.now i }
+    ensures { result ≡ is_kind map.now (kind_number kind) i }
 {
-    map[RECORD_SIZE * i + 2]
+    map[RECORD_SIZE * i + 2] == kind as u8
 }
 
+#[tactic(auto, unfolding(crate::specs::Map::permitted))]
 pub fn is_permitted(map: &[u8], i: usize) -> bool
     requires { i < count map.now }
     ensures { result ≡ permitted map.now i }
 {
-    let kind = kind_at(map, i);
-    if kind == PERMITTED {
-        return true;
-    }
-    kind == ONE_WRITE
+    is_kind(map, i, Kind::Permitted) || is_kind(map, i, Kind::OneWrite)
 }
 
+#[tactic(auto, unfolding(crate::specs::Map::reserved))]
 fn is_reserved(map: &[u8], i: usize) -> bool
     requires { i < count map.now }
     ensures { result ≡ reserved map.now i }
 {
-    kind_at(map, i) == RESERVED
+    is_kind(map, i, Kind::Reserved)
 }
 
 // Whether the kind is permitted or reserved.
+#[tactic(auto, unfolding(crate::specs::Map::known))]
 fn is_known(map: &[u8], i: usize) -> bool
     requires { i < count map.now }
     ensures { result ≡ known map.now i }
 {
-    if is_permitted(map, i) {
-        return true;
-    }
-    is_reserved(map, i)
+    is_permitted(map, i) || is_reserved(map, i)
 }
 
+#[tactic(auto, unfolding(crate::specs::Map::zeroed))]
 fn is_zeroed(map: &[u8], i: usize) -> bool
     requires { i < count map.now }
     ensures { result ≡ zeroed map.now i }
@@ -128,34 +116,30 @@ pub fn end_at(map: &[u8], i: usize) -> u64
 }
 
 // Whether record i holds the address.
+#[tactic(auto, unfolding(crate::specs::Map::holds))]
 pub fn record_holds(map: &[u8], i: usize, address: u64) -> bool
     requires { i < count map.now }
     ensures { result ≡ holds map.now i address }
 {
-    if address < first_at(map, i) {
-        return false;
-    }
-    address < end_at(map, i)
+    first_at(map, i) <= address && address < end_at(map, i)
 }
 
 // ---- the first fault
 
 // The addresses from low on and below high: those of the permitted records so far lie between the two.
-#[derive(Clone, Copy)]
+#[derive(Clone, Copy, Debug, PartialEq, Eq)]
 struct Span {
     low: u64,
     high: u64,
 }
 
-// Whether records i and j share an address.
+// Whether records i and j share an address. Both tests are made, since in a map in no order either comes out by chance.
+#[tactic(auto, unfolding(crate::specs::Map::shares))]
 fn records_share(map: &[u8], i: usize, j: usize) -> bool
     requires { (i < count map.now) × (j < count map.now) }
     ensures { result ≡ shares map.now i j }
 {
-    if end_at(map, j) <= first_at(map, i) {
-        return false;
-    }
-    first_at(map, j) < end_at(map, i)
+    (first_at(map, i) < end_at(map, j)) & (first_at(map, j) < end_at(map, i))
 }
 
 // Whether record j is permitted and shares an address with record i.
@@ -163,27 +147,20 @@ fn clashes(map: &[u8], i: usize, j: usize) -> bool
     requires { (i < count map.now) × (j < count map.now) }
     ensures { result ≡ (permitted map.now j && shares map.now i j) }
 {
-    if !is_permitted(map, j) {
-        return false;
-    }
-    records_share(map, i, j)
+    is_permitted(map, j) && records_share(map, i, j)
 }
 
 // Whether record i shares an address with an earlier permitted one. It shares none where it lies outside the span of
 // all of them; else they are tried one by one.
+#[tactic(auto, using(crate::proofs::FaultLaws::shares_below, crate::proofs::FaultLaws::shares_above), unfolding(crate::specs::Map::shares_any))]
 fn shares_earlier(map: &[u8], i: usize, span: Span) -> bool
     requires { (i < count map.now) × Within map.now i span.low span.high }
     ensures { result ≡ shares_any map.now i i }
 {
-    if span.high <= first_at(map, i) {
+    if span.high <= first_at(map, i) || end_at(map, i) <= span.low {
         return false;
     }
-    if end_at(map, i) <= span.low {
-        return false;
-    }
-    let mut j = i;
-    while 0 < j {
-        j -= 1;
+    for j in (0..i).rev() {
         if clashes(map, i, j) {
             return true;
         }
@@ -192,30 +169,17 @@ fn shares_earlier(map: &[u8], i: usize, span: Span) -> bool
 }
 
 // Whether record i breaks no rule.
-#[tactic(auto, using(crate::proofs::FaultLaws::not_marked, crate::proofs::FaultLaws::not_known, crate::proofs::FaultLaws::not_zeroed, crate::proofs::FaultLaws::no_length, crate::proofs::FaultLaws::past_top, crate::proofs::FaultLaws::sound_last))]
+#[tactic(auto, unfolding(crate::specs::Map::sound_at))]
 fn is_sound(map: &[u8], i: usize, span: Span) -> bool
     requires { (i < count map.now) × Within map.now i span.low span.high }
     ensures { result ≡ sound_at map.now i }
 {
-    if !is_marked(map, i) {
-        return false;
-    }
-    if !is_known(map, i) {
-        return false;
-    }
-    if !is_zeroed(map, i) {
-        return false;
-    }
-    if length_at(map, i) < 1 {
-        return false;
-    }
-    if TOP < end_at(map, i) {
-        return false;
-    }
-    if !is_permitted(map, i) {
-        return true;
-    }
-    !shares_earlier(map, i, span)
+    is_marked(map, i)
+        && is_known(map, i)
+        && is_zeroed(map, i)
+        && 1 <= length_at(map, i)
+        && end_at(map, i) <= TOP
+        && !(is_permitted(map, i) && shares_earlier(map, i, span))
 }
 
 // The span with record i, if that is permitted.
@@ -227,30 +191,25 @@ fn span_with(map: &[u8], i: usize, span: Span) -> Span
         return span;
     }
     Span {
-        low: lower(span.low, first_at(map, i)),
-        high: higher(span.high, end_at(map, i)),
+        low: span.low.min(first_at(map, i)),
+        high: span.high.max(end_at(map, i)),
     }
 }
 
-// The first fault of a map.
-pub fn first_fault(map: &[u8]) -> MapFault
+// The first fault of a map: its length, or its first record that breaks a rule.
+#[tactic(auto, using(crate::proofs::FaultLaws::fault_no), unfolding(crate::specs::Map::map_fault, crate::specs::Map::fault_from))]
+pub fn first_fault(map: &[u8]) -> Option<Refusal>
     ensures { result ≡ map_fault map.now }
 {
-    if map.len() % RECORD_SIZE != 0 {
-        return MapFault::Length;
+    if map.len() % RECORD_SIZE != 0 || MAP_LIMIT < map.len() {
+        return Some(Refusal::MapLength);
     }
-    if MAP_LIMIT < map.len() {
-        return MapFault::Length;
-    }
-    let n = map.len() / RECORD_SIZE;
     let mut span = Span { low: TOP, high: 0 };
-    let mut i = 0;
-    while i < n {
+    for i in 0..map.len() / RECORD_SIZE {
         if !is_sound(map, i, span) {
-            return MapFault::Record(i);
+            return Some(Refusal::MapRecord { place: i });
         }
         span = span_with(map, i, span);
-        i += 1;
     }
-    MapFault::Sound
+    None
 }

@@ -9,8 +9,7 @@ use Rattle.words.specs.declared.ByteOrder.{ByteOrder}
 use Rattle.words.specs.Refusal.{table_long_number, table_cut_number, result_long_number, output_short_number}
 use Rattle.words.proofs.ChoiceLaws.{if_cases}
 use Rattle.boot_table.specs.Form.{table_limit}
-use Rattle.rescue.specs.declared.Rescued.{Rescued}
-use Rattle.rescue.specs.Rescue.{rescued, done_answer, rescue_refused, rescue_answer, rescue_output}
+use Rattle.rescue.specs.Rescue.{RescueAnswer, rescued, done_answer, rescue_refused, rescue_answer, rescue_output}
 
 -- ---- each answer
 
@@ -46,7 +45,7 @@ pub record Fits (o : ByteOrder) (t : List ℕ) (room : ℕ) : Type 0 where
   pub fits : length (rescued o t) ≤ room
 
 -- what each answer has where it is given, the answer has
-pub by_answer : (o : ByteOrder) (t : List ℕ) (room : ℕ) (P : Rescued → Type 0)
+pub by_answer : (o : ByteOrder) (t : List ℕ) (room : ℕ) (P : RescueAnswer → Type 0)
     → (table_limit < length t → P (rescue_refused table_long_number))
     → (length t < 4 → P (rescue_refused table_cut_number))
     → (table_limit < length (rescued o t) → P (rescue_refused result_long_number))
@@ -63,7 +62,7 @@ by_answer o t room P p4 p5 p10 p11 p0 =
 
 -- ---- the output, by the answer r
 
-module _ (o : ByteOrder) (t out : List ℕ) (r : Rescued) (e : r ≡ rescue_answer o t (length out)) where
+module _ (o : ByteOrder) (t out : List ℕ) (r : RescueAnswer) (e : r ≡ rescue_answer o t (length out)) where
   pub output_kept : (r.number ≡ 0 → ⊥) → out ≡ rescue_output o t out
   unfolding rescue_output
   output_kept n = rw (← e) (simp (ne_eqb _ _ n))

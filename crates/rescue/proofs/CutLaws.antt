@@ -17,8 +17,7 @@ use Rattle.words.specs.Header.{header_at}
 use Rattle.words.specs.Refusal.{table_cut_number}
 use Rattle.words.proofs.ChoiceLaws.{if_both}
 use Rattle.words.proofs.HeaderLaws.{header_same}
-use Rattle.boot_table.specs.declared.Step.TheVariants.{Section, Fault}
-use Rattle.boot_table.specs.Table.{Sect, Reading, chunk, chunks, next_of, step_at, section_at, before, read_on}
+use Rattle.boot_table.specs.Table.{Section, Fault, Sect, Reading, chunk, chunks, next_of, step_at, section_at, before, read_on}
 use Rattle.boot_table.proofs.StepLaws.{IsSection, step_cut, step_short, section_step_lem, section_of, end_of, next_at}
 use Rattle.boot_table.proofs.ReadLaws.{read_section, read_end, read_fault, whole_ind}
 use Rattle.rescue.specs.Rescuing.{if_ended, ending_by}

@@ -24,8 +24,7 @@ use Rattle.boot_table.proofs.ReadLaws.{read_end, read_fault, read_begins}
 use Rattle.boot_table.proofs.FormLaws.{well_long, well_read}
 use Rattle.boot_table.proofs.FrontLaws.{behind, zero_word, read_valid, table_front}
 use Rattle.boot_table.proofs.RoundTrip.{and_then, read_run, read_table, entry_table, table_read, valid_read, length_read, length_table}
-use Rattle.rescue.specs.declared.Rescued.{Rescued}
-use Rattle.rescue.specs.Rescue.{kept, rescued, has_zero, zero_added, used_bytes, done_answer, rescue_refused, rescue_answer, rescue_output}
+use Rattle.rescue.specs.Rescue.{RescueAnswer, kept, rescued, has_zero, zero_added, used_bytes, done_answer, rescue_refused, rescue_answer, rescue_output}
 use Rattle.rescue.specs.Rescuing.{Refuses, Gives, BeginsWith, Longest, HasTable, ending_by, Succeeds, rescued_in, Holds, AddsUp, Rescuing}
 use Rattle.rescue.specs.WholeRun.{run_on, whole_run}
 use Rattle.rescue.proofs.WholeRunLaws.{length_rescued, run_within, rescued_front, zero_stands, used_within}
@@ -62,7 +61,7 @@ module _ (o : ByteOrder) (t out result : List ℕ) (k : Taken t) (is : rescued o
 -- a rescue that succeeds
 fits_of : (o : ByteOrder) (t : List ℕ) (room : ℕ) → (rescue_answer o t room).number ≡ 0 → Fits o t room
 fits_of o t room =
-    by_answer o t room (λ (r : Rescued). r.number ≡ 0 → Fits o t room)
+    by_answer o t room (λ (r : RescueAnswer). r.number ≡ 0 → Fits o t room)
     (λ a z. absurd (omega arith)) (λ a z. absurd (omega arith)) (λ a z. absurd (omega arith)) (λ a b z. absurd (omega arith)) (λ f z. f)
 
 module _ (o : ByteOrder) (t out : List ℕ) (f : Fits o t (length out)) where
@@ -328,7 +327,7 @@ sums_of o t out b z =
 -- the run is a part of the input, and the result four bytes longer
 room_of : (o : ByteOrder) (t out : List ℕ) → (rescue_answer o t (length out)).number ≡ output_short_number → length out < length t + 4
 room_of o t out =
-    by_answer o t (length out) (λ (r : Rescued). r.number ≡ output_short_number → length out < length t + 4)
+    by_answer o t (length out) (λ (r : RescueAnswer). r.number ≡ output_short_number → length out < length t + 4)
     (λ a z. absurd (omega arith)) (λ a z. absurd (omega arith)) (λ a z. absurd (omega arith))
     (λ long short z. omega (arith, length_rescued o t, run_within o t long))
     (λ f z. absurd (omega arith))

@@ -17,8 +17,7 @@ use Rattle.words.specs.Header.{header_at, header_bytes}
 use Rattle.words.specs.Refusal.{bytes_after_number}
 use Rattle.words.proofs.ChoiceLaws.{both_ways}
 use Rattle.words.proofs.HeaderLaws.{length_header}
-use Rattle.boot_table.specs.declared.Step.TheVariants.{Section, End, Fault}
-use Rattle.boot_table.specs.Table.{entry_of, chunks, table_of, stop, step_at, before, read_on, reading}
+use Rattle.boot_table.specs.Table.{Section, End, Fault, entry_of, chunks, table_of, stop, step_at, before, read_on, reading}
 use Rattle.boot_table.proofs.StepLaws.{section_of, end_of, fault_of}
 use Rattle.boot_table.proofs.ReadLaws.{read_section, read_end, read_fault, read_begins}
 use Rattle.boot_table.proofs.RoundTrip.{length_table}

@@ -4,19 +4,16 @@
 ghost use Rattle.std.specs.Prelude.{◌++◌, ◌≡◌, ◌+◌, ◌≤◌, ◌<◌, ◌^◌, length};
 ghost use Rattle.words.specs.Header.{header_bytes};
 ghost use Rattle.words.specs.Run.{over};
-ghost use Rattle.rescue.specs.Rescue.{rescue_refused, rescue_answer, rescue_output};
+ghost use Rattle.rescue.specs.Rescue.{rescue_answer, answer_of, rescue_output};
 ghost use Rattle.rescue.specs.WholeRun.{whole_run, used_to};
 
-use boot_table::{Step, TABLE_LIMIT, step_at};
-use words::refusal::{BYTES_AFTER, OUTPUT_SHORT, RESULT_LONG, TABLE_CUT, TABLE_LONG};
-use words::{ByteOrder, copy, put_header};
+use boot_table::{TABLE_LIMIT, step_at};
+use words::{ByteOrder, Refusal, copy, put_header};
 
-// What rescuing answers. The number is 0 where the output holds the rescued table: its length, how many sections were kept,
-// how many bytes of the input were not used, and whether the zero word had to be added. A refusal has its number, and all else is zero.
-#[derive(Clone, Copy)]
+// What rescuing answers where the output holds the rescued table: its length, how many sections were kept, how many bytes of
+// the input were not used, and whether the zero word had to be added.
+#[derive(Clone, Copy, Debug, PartialEq, Eq)]
 pub struct Rescued {
-    pub number: u32,
-    pub place: usize,
     pub length: usize,
     pub sections: usize,
     pub unused: usize,
@@ -24,27 +21,15 @@ pub struct Rescued {
 }
 
 // The whole sections from a table's start: how many, the offset behind them, and whether a zero word stands there.
-#[derive(Clone, Copy)]
+#[derive(Clone, Copy, Debug, PartialEq, Eq)]
 struct Run {
     sections: usize,
     end: usize,
     zero: bool,
 }
 
-fn refused(number: u32) -> Rescued
-    ensures { result ≡ rescue_refused number }
-{
-    Rescued {
-        number: number,
-        place: 0,
-        length: 0,
-        sections: 0,
-        unused: 0,
-        added: false,
-    }
-}
-
 // Walks over the whole sections from the start, up to a zero word or the first fault.
+#[tactic(auto, using(crate::proofs::WholeRunLaws::run_starts, crate::proofs::WholeRunLaws::run_section, crate::proofs::WholeRunLaws::run_end, crate::proofs::WholeRunLaws::run_fault, boot_table::proofs::StepLaws::section_of), unfolding(crate::specs::Rescue::has_zero))]
 fn whole_run(table: &[u8], order: ByteOrder) -> Run
     requires { 4 ≤ length table.now }
     ensures { result ≡ whole_run order table.now }
@@ -52,33 +37,31 @@ fn whole_run(table: &[u8], order: ByteOrder) -> Run
     let mut at: usize = 4;
     let mut sections: usize = 0;
     loop {
-        let step = step_at(table, order, at);
-        let Step::Section {
-            address: _,
-            size: _,
-            start: _,
-            next,
-        } = step
-        else {
-            let Step::Fault { number, place: _ } = step else {
+        match step_at(table, order, at) {
+            Ok(Some(section)) => {
+                sections += 1;
+                at = section.next;
+            }
+            Ok(None) | Err(Refusal::BytesAfter { .. }) => {
                 return Run {
-                    sections: sections,
+                    sections,
                     end: at,
                     zero: true,
                 };
-            };
-            return Run {
-                sections: sections,
-                end: at,
-                zero: number == BYTES_AFTER,
-            };
-        };
-        sections += 1;
-        at = next;
+            }
+            Err(_) => {
+                return Run {
+                    sections,
+                    end: at,
+                    zero: false,
+                };
+            }
+        }
     }
 }
 
 // How many bytes of the input are used: those before the end of its whole sections, and a zero word that stands there.
+#[tactic(auto, unfolding(crate::specs::WholeRun::used_to))]
 fn used(end: usize, zero: bool) -> usize
     requires { end + 4 < 2 ^ 64 }
     ensures { result ≡ used_to end zero }
@@ -97,32 +80,30 @@ fn write_rescued(front: &[u8], order: ByteOrder, output: &mut [u8])
 
 // Rescues a table into the output: its entry, its whole sections from the start as they stand, and a zero word.
 #[tactic(auto, using(crate::proofs::AnswerLaws::table_long, crate::proofs::AnswerLaws::entry_cut, crate::proofs::AnswerLaws::result_long, crate::proofs::AnswerLaws::output_short, crate::proofs::AnswerLaws::output_kept, crate::proofs::WholeRunLaws::length_rescued))]
-pub fn rescue(table: &[u8], order: ByteOrder, output: &mut [u8]) -> Rescued
-    ensures value { result ≡ rescue_answer order table.now (length output.old) }
+pub fn rescue(table: &[u8], order: ByteOrder, output: &mut [u8]) -> Result<Rescued, Refusal>
+    ensures value { answer_of result ≡ rescue_answer order table.now (length output.old) }
     ensures output_after { output.new ≡ rescue_output order table.now output.old }
 {
     if TABLE_LIMIT < table.len() {
-        return refused(TABLE_LONG);
+        return Err(Refusal::TableLong);
     }
     if table.len() < 4 {
-        return refused(TABLE_CUT);
+        return Err(Refusal::TableCut { place: 0 });
     }
     let run = whole_run(table, order);
     let length = run.end + 4;
     if TABLE_LIMIT < length {
-        return refused(RESULT_LONG);
+        return Err(Refusal::ResultLong);
     }
     if output.len() < length {
-        return refused(OUTPUT_SHORT);
+        return Err(Refusal::OutputShort);
     }
     write_rescued(&table[..run.end], order, output);
     let unused = table.len() - used(run.end, run.zero);
-    Rescued {
-        number: 0,
-        place: 0,
-        length: length,
+    Ok(Rescued {
+        length,
         sections: run.sections,
-        unused: unused,
+        unused,
         added: !run.zero,
-    }
+    })
 }

@@ -3,17 +3,16 @@ use Rattle.std.specs.Prelude.{ℕ, List, [], ◌∷◌, Bool, true, false}
 use mir.Val.{bool_byte}
 use Rattle.words.specs.declared.ByteOrder.{ByteOrder}
 use Rattle.words.specs.declared.ByteOrder.TheVariants.{HighFirst, LowFirst}
-use Rattle.region_map.specs.declared.MapAnswer.{MapAnswer}
-use Rattle.loader.specs.declared.Answer.{Answer}
-use Rattle.joiner.specs.declared.Joined.{Joined}
-use Rattle.writer.specs.declared.Written.{Written}
-use Rattle.query.specs.declared.Found.{Found}
-use Rattle.rescue.specs.declared.Rescued.{Rescued}
-use Rattle.boot_config.specs.declared.Configured.{Configured}
+use Rattle.region_map.specs.Map.{MapAnswer}
+use Rattle.loader.specs.Load.{Answer}
+use Rattle.joiner.specs.Join.{JoinAnswer}
+use Rattle.writer.specs.Write.{WriteAnswer}
+use Rattle.query.specs.Find.{FindAnswer}
+use Rattle.rescue.specs.Rescue.{RescueAnswer}
+use Rattle.boot_config.specs.Config.{ConfigAnswer}
 use Rattle.boot_strap.specs.declared.Manner.{Manner}
 use Rattle.boot_strap.specs.declared.Manner.TheVariants.{Strict, Lenient}
-use Rattle.boot_strap.specs.declared.SameAnswer.{SameAnswer}
-use Rattle.boot_strap.specs.declared.LabelAnswer.{LabelAnswer}
+use Rattle.boot_strap.specs.Strap.{SameAnswer, LabelAnswer}
 
 -- number, place, permitted sum
 unfoldable pub map_numbers : MapAnswer → List ℕ
@@ -24,23 +23,23 @@ unfoldable pub load_numbers : Answer → List ℕ
 load_numbers r = r.number ∷ r.place ∷ r.address ∷ r.entry ∷ bool_byte r.entry_open ∷ r.sections ∷ r.bytes ∷ []
 
 -- number, place, which table, length, sections
-unfoldable pub join_numbers : Joined → List ℕ
+unfoldable pub join_numbers : JoinAnswer → List ℕ
 join_numbers r = r.number ∷ r.place ∷ r.which ∷ r.length ∷ r.sections ∷ []
 
 -- number, place, length, sections
-unfoldable pub write_numbers : Written → List ℕ
+unfoldable pub write_numbers : WriteAnswer → List ℕ
 write_numbers r = r.number ∷ r.place ∷ r.length ∷ r.sections ∷ []
 
 -- number, place, table, offset, length, bytes read
-unfoldable pub find_numbers : Found → List ℕ
+unfoldable pub find_numbers : FindAnswer → List ℕ
 find_numbers r = r.number ∷ r.place ∷ r.table ∷ r.offset ∷ r.length ∷ r.read ∷ []
 
 -- number, place, length, sections, bytes not used, whether the zero word was added
-unfoldable pub rescue_numbers : Rescued → List ℕ
+unfoldable pub rescue_numbers : RescueAnswer → List ℕ
 rescue_numbers r = r.number ∷ r.place ∷ r.length ∷ r.sections ∷ r.unused ∷ bool_byte r.added ∷ []
 
 -- number, place, entries, bits
-unfoldable pub config_numbers : Configured → List ℕ
+unfoldable pub config_numbers : ConfigAnswer → List ℕ
 config_numbers r = r.number ∷ r.place ∷ r.entries ∷ r.bits ∷ []
 
 -- the byte order that the flag low_first asks for

@@ -6,6 +6,7 @@ use native.Mathlib.Nat.{add-zero, zero-add}
 use native.Mathlib.Omega.{arith}
 use lib.ListN.{length, get_or, take, drop}
 use lib.Seq.{get_or-append-add}
+use Rattle.std.specs.Int.{w32, to_be_bytes, to_le_bytes}
 use Rattle.words.specs.declared.ByteOrder.{ByteOrder}
 use Rattle.words.specs.declared.ByteOrder.TheVariants.{HighFirst, LowFirst}
 use Rattle.words.specs.Word.{Bytes, word_at, word_bytes}
@@ -27,6 +28,15 @@ header_same o t u i j same = same_word o
 -- the first word of what stands behind p
 pub header_seam : (o : ByteOrder) (p q : List ℕ) → header_at o (p ++ q) (length p) ≡ header_at o q 0
 header_seam o p q = header_same o (p ++ q) q (length p) 0 (λ k h. rw zero-add (get_or-append-add p q k 0))
+
+-- the library's bytes of a word are the definition's, in either order
+pub high_bytes : (n : ℕ) → to_be_bytes w32 n ≡ header_bytes HighFirst n
+unfolding header_bytes word_bytes
+high_bytes n = refl
+
+pub low_bytes : (n : ℕ) → to_le_bytes w32 n ≡ header_bytes LowFirst n
+unfolding header_bytes
+low_bytes n = refl
 
 -- low first the bytes of a word stand the other way round
 pub header_turned : (n : ℕ) → header_bytes LowFirst n ≡ reverse (header_bytes HighFirst n)

@@ -2,3 +2,4 @@ pub mod ChoiceLaws
 pub mod WordLaws
 pub mod HeaderLaws
 pub mod RunLaws
+pub mod RefusalLaws

@@ -1,12 +1,14 @@
-// Words, header words in either byte order, pads and runs of bytes, with which maps and tables are read and stored, and the lower and the higher of two numbers.
+// Words, header words in either byte order, pads and runs of bytes, with which maps and tables are read and stored, and why a call refuses.
 #![tactic(auto)]
 
-ghost use Rattle.std.specs.Prelude.{◌++◌, ◌≡◌, ◌+◌, ◌*◌, ◌^◌, ◌≤◌, ◌<◌, min, max, length, drop};
+ghost use Rattle.std.specs.Prelude.{◌++◌, ◌≡◌, ◌+◌, ◌*◌, ◌^◌, ◌≤◌, ◌<◌, length, drop};
 ghost use Rattle.words.specs.Word.{word_at, pad_count};
 ghost use Rattle.words.specs.Header.{header_at, header_bytes};
 ghost use Rattle.words.specs.Run.{over};
 
-pub mod refusal;
+mod refusal;
+
+pub use refusal::Refusal;
 
 // The highest address and one more: 2^32.
 pub const TOP: u64 = 4_294_967_296;
@@ -34,7 +36,7 @@ pub fn word_at(bytes: &[u8], at: usize) -> u32
 }
 
 // The order of the bytes of a boot table's header words, which are its entry and each section's size and address.
-#[derive(Clone, Copy)]
+#[derive(Clone, Copy, Debug, PartialEq, Eq)]
 pub enum ByteOrder {
     HighFirst,
     LowFirst,
@@ -52,36 +54,20 @@ pub fn header_at(table: &[u8], order: ByteOrder, at: usize) -> u32
 }
 
 // So many data bytes and their pads: the next multiple of four.
-pub fn padded(size: usize) -> usize
-    requires { size < 2 ^ 32 }
+pub fn padded(size: u32) -> usize
     ensures { result ≡ size + pad_count size }
 {
-    (size + 3) / 4 * 4
+    (size as usize + 3) / 4 * 4
 }
 
-// The lower of two numbers.
-pub fn lower(a: u64, b: u64) -> u64
-    ensures { result ≡ min a b }
-{
-    if a < b { a } else { b }
-}
-
-// The higher of two numbers.
-pub fn higher(a: u64, b: u64) -> u64
-    ensures { result ≡ max a b }
-{
-    if a < b { b } else { a }
-}
-
-// Copies a run of bytes to the front of a part.
+// Copies a run of bytes to the front of a part. The compiler makes one call of memcpy of the loop, and none of
+// `copy_from_slice`, which is slower (docs/BENCHMARK.md).
 pub fn copy(run: &[u8], part: &mut [u8])
     requires { length run.now ≤ length part.old }
     ensures { part.new ≡ run.now ++ drop (length run.now) part.old }
 {
-    let mut i = 0;
-    while i < run.len() {
+    for i in 0..run.len() {
         part[i] = run[i];
-        i += 1;
     }
 }
 
@@ -98,12 +84,8 @@ pub fn put_header(word: u32, order: ByteOrder, output: &mut [u8], at: usize)
     requires { at + 4 ≤ length output.old }
     ensures { output.new ≡ over output.old at (header_bytes order word) }
 {
-    let a = (word / 16_777_216 % 256) as u8;
-    let b = (word / 65_536 % 256) as u8;
-    let c = (word / 256 % 256) as u8;
-    let d = (word % 256) as u8;
     match order {
-        ByteOrder::HighFirst => put_four([a, b, c, d], output, at),
-        ByteOrder::LowFirst => put_four([d, c, b, a], output, at),
+        ByteOrder::HighFirst => put_four(word.to_be_bytes(), output, at),
+        ByteOrder::LowFirst => put_four(word.to_le_bytes(), output, at),
     }
 }

@@ -1,66 +1,112 @@
-// The numbers of the refusals.
+// Why a call refuses.
+ghost use Rattle.std.specs.Prelude.{◌≡◌};
+ghost use Rattle.words.specs.Refusal.{number_of, place_of, address_of};
 
-// The map's length is no multiple of 12, or over 768.
-pub const MAP_LENGTH: u32 = 1;
+// A refusal, with its place where it has one: an offset in a table, or the index of a map's record or of a section in a list.
+#[derive(Clone, Copy, Debug, PartialEq, Eq)]
+pub enum Refusal {
+    // The map's length is no multiple of 12, or over 768.
+    MapLength,
+    // A map record breaks a rule.
+    MapRecord { place: usize },
+    // The memory's length differs from the permitted sum.
+    MemoryLength,
+    // The boot table is over its limit.
+    TableLong,
+    // The boot table is cut short.
+    TableCut { place: usize },
+    // Bytes stand after the zero word.
+    BytesAfter { place: usize },
+    // Address plus size is over 2^32.
+    PastTop { place: usize },
+    // An address is not open.
+    NotOpen { place: usize, address: u32 },
+    // The table that would be written is over the limit of a table.
+    ResultLong,
+    // The output is shorter than the result.
+    OutputShort,
+    // The register lists are unfit.
+    RegistersUnfit,
+    // The configuration table is over its limit.
+    ConfigLong,
+    // The configuration table ends before three zero words.
+    ConfigCut { place: usize },
+    // Bytes stand after the end entry.
+    ConfigAfter { place: usize },
+    // A register is not in the list.
+    NoRegister { place: usize },
+    // A branch is asked for.
+    Branch { place: usize },
+    // The strap value is over 8,191.
+    StrapLong,
+    // The strap value is reserved.
+    StrapReserved,
+    // A section of the list has its start plus size past the data.
+    PastData { place: usize },
+    // A section of the list has size zero.
+    SizeZero { place: usize },
+    // An address that takes one write is stored twice.
+    StoredTwice { place: usize },
+}
 
-// A map record breaks a rule.
-pub const MAP_RECORD: u32 = 2;
+impl Refusal {
+    // The number of a refusal. 6 is withdrawn and not used again.
+    pub fn number(self) -> u32
+        ensures { result ≡ number_of self }
+    {
+        match self {
+            Refusal::MapLength => 1,
+            Refusal::MapRecord { .. } => 2,
+            Refusal::MemoryLength => 3,
+            Refusal::TableLong => 4,
+            Refusal::TableCut { .. } => 5,
+            Refusal::BytesAfter { .. } => 7,
+            Refusal::PastTop { .. } => 8,
+            Refusal::NotOpen { .. } => 9,
+            Refusal::ResultLong => 10,
+            Refusal::OutputShort => 11,
+            Refusal::RegistersUnfit => 12,
+            Refusal::ConfigLong => 13,
+            Refusal::ConfigCut { .. } => 14,
+            Refusal::ConfigAfter { .. } => 15,
+            Refusal::NoRegister { .. } => 16,
+            Refusal::Branch { .. } => 17,
+            Refusal::StrapLong => 18,
+            Refusal::StrapReserved => 19,
+            Refusal::PastData { .. } => 20,
+            Refusal::SizeZero { .. } => 21,
+            Refusal::StoredTwice { .. } => 29,
+        }
+    }
 
-// The memory's length differs from the permitted sum.
-pub const MEMORY_LENGTH: u32 = 3;
+    // The place of a refusal: 0 where it has none.
+    pub fn place(self) -> usize
+        ensures { result ≡ place_of self }
+    {
+        match self {
+            Refusal::MapRecord { place }
+            | Refusal::TableCut { place }
+            | Refusal::BytesAfter { place }
+            | Refusal::PastTop { place }
+            | Refusal::NotOpen { place, .. }
+            | Refusal::ConfigCut { place }
+            | Refusal::ConfigAfter { place }
+            | Refusal::NoRegister { place }
+            | Refusal::Branch { place }
+            | Refusal::PastData { place }
+            | Refusal::SizeZero { place }
+            | Refusal::StoredTwice { place } => place,
+            _ => 0,
+        }
+    }
 
-// The boot table is over its limit.
-pub const TABLE_LONG: u32 = 4;
-
-// The boot table is cut short.
-pub const TABLE_CUT: u32 = 5;
-
-// 6 is withdrawn and not used again.
-
-// Bytes stand after the zero word.
-pub const BYTES_AFTER: u32 = 7;
-
-// Address plus size is over 2^32.
-pub const PAST_TOP: u32 = 8;
-
-// An address is not open.
-pub const NOT_OPEN: u32 = 9;
-
-// The table that would be written is over the limit of a table.
-pub const RESULT_LONG: u32 = 10;
-
-// The output is shorter than the result.
-pub const OUTPUT_SHORT: u32 = 11;
-
-// The register lists are unfit.
-pub const REGISTERS_UNFIT: u32 = 12;
-
-// The configuration table is over its limit.
-pub const CONFIG_LONG: u32 = 13;
-
-// The configuration table ends before three zero words.
-pub const CONFIG_CUT: u32 = 14;
-
-// Bytes stand after the end entry.
-pub const CONFIG_AFTER: u32 = 15;
-
-// A register is not in the list.
-pub const NO_REGISTER: u32 = 16;
-
-// A branch is asked for.
-pub const BRANCH: u32 = 17;
-
-// The strap value is over 8,191.
-pub const STRAP_LONG: u32 = 18;
-
-// The strap value is reserved.
-pub const STRAP_RESERVED: u32 = 19;
-
-// A section of the list has its start plus size past the data.
-pub const PAST_DATA: u32 = 20;
-
-// A section of the list has size zero.
-pub const SIZE_ZERO: u32 = 21;
-
-// An address that takes one write is stored twice.
-pub const STORED_TWICE: u32 = 29;
+    // The lowest address that is not open: 0 of another refusal.
+    pub fn address(self) -> u32
+        ensures { result ≡ address_of self }
+    {
+        match self {
+            Refusal::NotOpen { address, .. } => address,
+            _ => 0,
+        }
+    }
+}

@@ -8,22 +8,24 @@ use native.Mathlib.Omega.{arith}
 use native.Mathlib.Decide.{dec_le, ℕ_discrete}
 use borrow.Author.Tests.{eq-eqb, ne_eqb, lt-ltb, le-ltb}
 use lib.ListN.{length, drop, length-append}
+use Rattle.std.specs.Prelude.{Result, Ok, Err, ⊤}
 use Rattle.words.specs.declared.ByteOrder.{ByteOrder}
 use Rattle.words.specs.Header.{header_bytes}
 use Rattle.words.specs.Run.{over}
-use Rattle.words.specs.Refusal.{result_long_number, output_short_number}
+use Rattle.words.specs.Refusal.{result_long_number, output_short_number, number_of, place_of}
+use Rattle.words.specs.declared.refusal.Refusal.{Refusal}
+use Rattle.words.proofs.RefusalLaws.{number_some}
 use Rattle.words.proofs.HeaderLaws.{length_header}
 use Rattle.words.proofs.RunLaws.{over_front, over_over}
 use Rattle.boot_table.specs.Table.{next_of, chunk, chunks, table_of}
 use Rattle.boot_table.specs.Form.{table_limit}
 use Rattle.boot_table.proofs.RoundTrip.{length_table}
 use Rattle.writer.specs.declared.Section.{Section}
-use Rattle.writer.specs.declared.Written.{Written}
-use Rattle.writer.specs.declared.Judged.{Judged}
-use Rattle.writer.specs.Write.{sect_of, sects_of, written_table, fault_of, Faultless, none, also, write_refused, list_rule, room_rule, write_answer, write_output}
-use Rattle.writer.specs.Judging.{longer, judge_from, answer_of}
+use Rattle.writer.specs.Write.{WriteAnswer, sect_of, sects_of, written_table, fault_of, Faultless, none, also, write_refused, list_rule, room_rule, write_answer, write_output}
+use Rattle.writer.specs.Judging.{longer, or_fault, judge_one, judge_from}
 use Rattle.writer.proofs.ListLaws.{sects_none, sects_cons}
 use Rattle.writer.proofs.SectionLaws.{length_sect}
+use Rattle.writer.proofs.JudgeLaws.{one_fine, one_bad}
 
 -- ---- how long the table is
 
@@ -53,12 +55,12 @@ module _ (bytes count room : ℕ) where
       (λ h. by_cases (dec_le bytes room) (λ k. (h, k)) (λ k. absurd (never (λ e. omega arith) (room_short h (omega arith)))))
       (λ h. absurd (never (λ e. omega arith) (room_long (omega arith))))
     where
-      never : {r : Written} → (r.number ≡ 0 → ⊥) → r ≡ room_rule bytes count room → ⊥
-      never n e = n (ap (λ (w : Written). w.number) e ∙ z)
+      never : {r : WriteAnswer} → (r.number ≡ 0 → ⊥) → r ≡ room_rule bytes count room → ⊥
+      never n e = n (ap (λ (w : WriteAnswer). w.number) e ∙ z)
 
 -- ---- the first bad section
 
-module _ (n : ℕ) (fine : Written) where
+module _ (n : ℕ) (fine : WriteAnswer) where
   pub list_faultless : {xs : List Section} (i : ℕ) → Faultless n xs → list_rule n fine i xs ≡ fine
   unfolding list_rule
   list_faultless i none = refl
@@ -74,15 +76,10 @@ module _ (n : ℕ) (fine : Written) where
 
 -- ---- the answer, as the code judges
 
--- the answer for a judged list, with a fault and without
-module _ (j : Judged) (count room : ℕ) where
-  pub answer_bad : (j.number ≡ 0 → ⊥) → write_refused j.number j.place ≡ answer_of j count room
-  unfolding answer_of
-  answer_bad z = simp (ne_eqb _ _ z)
-
-  pub answer_counted : j.number ≡ 0 → room_rule j.length count room ≡ answer_of j count room
-  unfolding answer_of
-  answer_counted z = simp (eq-eqb _ _ z)
+-- the answer for what a list of so many sections comes to
+answered : Result ℕ Refusal → ℕ → ℕ → WriteAnswer
+answered (Ok bytes) count room = room_rule bytes count room
+answered (Err refusal) count room = write_refused (number_of refusal) (place_of refusal)
 
 module _ (o : ByteOrder) (d : List ℕ) (count room : ℕ) where
   -- a section more: over the limit it changes nothing
@@ -99,20 +96,40 @@ module _ (o : ByteOrder) (d : List ℕ) (count room : ℕ) where
   sects_length : (x : Section) (xs : List Section) → length (chunks o (sects_of (x ∷ xs) d)) ≡ length (chunk o (sect_of d x)) + length (chunks o (sects_of xs d))
   sects_length x xs = rw (sects_cons, length-append) refl
 
-  judged_from : (xs : List Section) (i bytes : ℕ) → answer_of (judge_from xs i (length d) bytes) count room ≡ list_rule (length d) (room_rule (bytes + length (chunks o (sects_of xs d))) count room) i xs
-  unfolding answer_of judge_from list_rule
+  judged_from : (xs : List Section) (i bytes : ℕ) → answered (judge_from xs i (length d) bytes) count room ≡ list_rule (length d) (room_rule (bytes + length (chunks o (sects_of xs d))) count room) i xs
+  unfolding answered judge_from list_rule
   judged_from [] i bytes = ap (λ (m : ℕ). room_rule m count room) (sym (rw (sects_none o d, add-zero) refl))
-  judged_from (x ∷ xs) i bytes =
-      by_cases (ℕ_discrete (fault_of x (length d)) 0)
-      (λ e. rw (eq-eqb _ _ e) (judged_from xs (suc i) (longer bytes x.size) ∙ ap (λ (w : Written). list_rule (length d) w (suc i) xs)
-      (room_longer x bytes (length (chunks o (sects_of xs d))) e ∙ ap (λ (m : ℕ). room_rule (bytes + m) count room) (sym (sects_length x xs)))))
-      (λ e. simp (ne_eqb _ _ e))
+  judged_from (x ∷ xs) i bytes = go (judge_one x i (length d)) refl (judged_from xs (suc i) (longer bytes x.size))
+    where
+      later : Result ℕ Refusal
+      later = judge_from xs (suc i) (length d) (longer bytes x.size)
+
+      go : (r : Result ⊤ Refusal) → judge_one x i (length d) ≡ r
+          → answered later count room ≡ list_rule (length d) (room_rule (longer bytes x.size + length (chunks o (sects_of xs d))) count room) (suc i) xs
+          → answered (or_fault r later) count room ≡ list_rule (length d) (room_rule (bytes + length (chunks o (sects_of (x ∷ xs) d))) count room) i (x ∷ xs)
+      go (Ok u) j rest =
+          let e = one_fine x i (length d) u j in
+          rw (eq-eqb _ _ e) (rest ∙ ap (λ (w : WriteAnswer). list_rule (length d) w (suc i) xs)
+          (room_longer x bytes (length (chunks o (sects_of xs d))) e ∙ ap (λ (m : ℕ). room_rule (bytes + m) count room) (sym (sects_length x xs))))
+      go (Err refusal) j rest =
+          let q = one_bad x i (length d) refusal j in
+          rw (← q.0, q.1) (simp (ne_eqb _ _ (number_some refusal)))
 
 -- the judged list's answer is what writing answers
-pub judged_answer : (o : ByteOrder) (entry : ℕ) (xs : List Section) (d : List ℕ) (room : ℕ)
-    → answer_of (judge_from xs 0 (length d) 8) (length xs) room ≡ write_answer o entry xs d room
-unfolding write_answer
-judged_answer o entry xs d room = rw length_written (judged_from o d (length xs) room xs 0 8)
+module _ (o : ByteOrder) (entry : ℕ) (xs : List Section) (d : List ℕ) (room : ℕ) where
+  judged_answer : answered (judge_from xs 0 (length d) 8) (length xs) room ≡ write_answer o entry xs d room
+  unfolding write_answer
+  judged_answer = rw length_written (judged_from o d (length xs) room xs 0 8)
+
+  -- of a list with a fault
+  pub judged_bad : (refusal : Refusal) → Err refusal ≡ judge_from xs 0 (length d) 8 → write_refused (number_of refusal) (place_of refusal) ≡ write_answer o entry xs d room
+  unfolding answered
+  judged_bad refusal e = rw (← e) at judged_answer
+
+  -- of a list without
+  pub judged_length : (bytes : ℕ) → Ok bytes ≡ judge_from xs 0 (length d) 8 → room_rule bytes (length xs) room ≡ write_answer o entry xs d room
+  unfolding answered
+  judged_length bytes e = rw (← e) at judged_answer
 
 -- ---- when the table is written
 
@@ -133,7 +150,7 @@ module _ (o : ByteOrder) (entry : ℕ) (xs : List Section) (d : List ℕ) (room 
 
 -- ---- the output, by the answer r
 
-module _ (o : ByteOrder) (entry : ℕ) (xs : List Section) (d out : List ℕ) (r : Written) (e : r ≡ write_answer o entry xs d (length out)) where
+module _ (o : ByteOrder) (entry : ℕ) (xs : List Section) (d out : List ℕ) (r : WriteAnswer) (e : r ≡ write_answer o entry xs d (length out)) where
   pub output_kept : (r.number ≡ 0 → ⊥) → out ≡ write_output o entry xs d out
   unfolding write_output
   output_kept n = rw (← e) (simp (ne_eqb _ _ n))

@@ -1,98 +1,66 @@
--- Judging a list: one section, by the tests that lead there; and section by section, what is known before each turn, where it stops, and what it has come to at its end.
-use Prim.Native.Nat.{ℕ, ◌+◌, ◌≤◌, ◌<◌, zero-le}
-use mathlib.Core.Path.{◌≡◌, refl, sym, ap, ◌∙◌}
-use mathlib.Core.Bool.{true, false}
-use mathlib.Core.List.{List, [], ◌∷◌}
+-- Judging a list: what a judged section says of its fault; and section by section, where judging stops, goes on, and ends.
+use Prim.Native.Nat.{ℕ, ◌+◌, ◌≤◌, ◌<◌, ◌^◌}
+use mathlib.Core.Path.{◌≡◌, refl, sym}
+use mathlib.Core.Logic.{by_cases}
+use mathlib.Core.List.{List, []}
 use native.Mathlib.Numerals.{add-one}
-use native.Mathlib.Nat.{add_assoc}
 use native.Mathlib.Omega.{arith}
-use borrow.Author.Tests.{eqb-true, eq-eqb, ne_eqb, lt-ltb, le-ltb}
-use lib.Dec.{eqb}
+use native.Mathlib.Decide.{dec_le, ℕ_discrete}
+use borrow.Author.Tests.{eq-eqb, ne_eqb, lt-ltb, le-ltb}
 use lib.ListN.{length, drop, get_or, drop_of_length-le}
-use Rattle.words.specs.Word.{pad_count}
-use Rattle.words.proofs.ChoiceLaws.{if_cases}
-use Rattle.boot_table.specs.Table.{next_of}
-use Rattle.boot_table.specs.Form.{table_limit}
+use Rattle.std.specs.Prelude.{Result, Ok, Err, ⊤}
+use Rattle.words.specs.Refusal.{number_of, place_of}
+use Rattle.words.specs.declared.refusal.Refusal.{Refusal}
 use Rattle.writer.specs.declared.Section.{Section}
-use Rattle.writer.specs.declared.Judged.{Judged}
 use Rattle.writer.specs.Write.{fault_of}
-use Rattle.writer.specs.Judging.{faulty, counted, longer, judge_one, judge_from}
+use Rattle.writer.specs.Judging.{longer, judge_one, judge_from}
+use Rattle.writer.proofs.FaultLaws.{fault_empty, fault_data, fault_top, fault_none}
 use Rattle.writer.proofs.ListLaws.{no_section, rest_cons}
 
--- ---- one section
+-- ---- one section: x is a section of index i over n bytes of data
 
--- so many bytes of a table and a section more: over the limit already, or not
-module _ (bytes size : ℕ) where
-  pub longer_still : table_limit < bytes → bytes ≡ longer bytes size
-  unfolding longer
-  longer_still h = simp (lt-ltb _ _ h)
+-- what a judged section says of its fault
+Told : Section → ℕ → ℕ → Result ⊤ Refusal → Type 0
+Told x i n (Ok u) = fault_of x n ≡ 0
+Told x i n (Err r) = (number_of r ≡ fault_of x n) × (place_of r ≡ i)
 
-  pub longer_more : bytes ≤ table_limit → (p : ℕ) → p ≡ size + pad_count size → bytes + 8 + p ≡ longer bytes size
-  unfolding longer next_of
-  longer_more h p q = simp (le-ltb _ _ h) (ap (λ (k : ℕ). bytes + 8 + k) q ∙ sym (add_assoc (bytes + 8) size (pad_count size)))
+one_told : (x : Section) (i n : ℕ) → Told x i n (judge_one x i n)
+unfolding Told judge_one
+one_told x i n =
+    by_cases (ℕ_discrete x.size 0) (λ z. rw (eq-eqb _ _ z) (fault_empty x n z, refl)) (λ z.
+    by_cases (dec_le (x.start + x.size) n)
+    (λ h. by_cases (dec_le (x.address + x.size) (2 ^ 32))
+    (λ k. rw (ne_eqb _ _ z, le-ltb _ _ h, le-ltb _ _ k) (sym (fault_none x n z h k)))
+    (λ k. let k' : 2 ^ 32 < x.address + x.size = omega arith in rw (ne_eqb _ _ z, le-ltb _ _ h, lt-ltb _ _ k') (fault_top x n z h k', refl)))
+    (λ h. let h' : n < x.start + x.size = omega arith in rw (ne_eqb _ _ z, lt-ltb _ _ h') (fault_data x n z h', refl)))
 
--- the section x of index i over n bytes of data, behind so many bytes of a table; e is the fault that was found
-module _ (x : Section) (i n bytes e : ℕ) (is : e ≡ fault_of x n) where
-  pub one_bad : (e ≡ 0 → ⊥) → faulty e i ≡ judge_one x i n bytes
-  unfolding judge_one
-  one_bad z = rw (← is) (simp (ne_eqb _ _ z))
+-- a section that is let through has no fault
+pub one_fine : (x : Section) (i n : ℕ) (u : ⊤) → judge_one x i n ≡ Ok u → fault_of x n ≡ 0
+unfolding Told
+one_fine x i n u e = rw e at (one_told x i n)
 
-  pub one_more : e ≡ 0 → (m : ℕ) → m ≡ longer bytes x.size → counted m ≡ judge_one x i n bytes
-  unfolding judge_one
-  one_more z m q = rw (← is, q) (simp (eq-eqb _ _ z))
+-- a refusal has the number of the section's fault, and its index
+pub one_bad : (x : Section) (i n : ℕ) (r : Refusal) → judge_one x i n ≡ Err r → (number_of r ≡ fault_of x n) × (place_of r ≡ i)
+unfolding Told
+one_bad x i n r e = rw e at (one_told x i n)
 
--- ---- section by section
+-- ---- section by section: s is what the list comes to from the section of index i on, behind so many bytes
 
--- before the turn of an index, with s judged so far: no fault, and the rest of the list comes to what the whole list comes to
-pub record JudgeAt (xs : List Section) (n index : ℕ) (s : Judged) : Type 0 where
-  pub within : index ≤ length xs
-  pub clean : s ≡ counted s.length
-  pub same : judge_from (drop index xs) index n s.length ≡ judge_from xs 0 n 8
+module _ (xs : List Section) (i n bytes : ℕ) (s : Result ℕ Refusal) (same : judge_from (drop i xs) i n bytes ≡ s) where
+  abbrev x : Section
+  x = get_or xs i no_section
 
--- the number of a judged section is its fault
-one_number : (x : Section) (i n bytes : ℕ) → (judge_one x i n bytes).number ≡ fault_of x n
-unfolding judge_one
-one_number x i n bytes = if_cases (λ (j : Judged). j.number ≡ fault_of x n) (eqb (fault_of x n) 0) _ _ (λ t. sym (eqb-true _ _ t)) (λ t. refl)
+  -- a section without a fault: the others come to the same
+  pub judge_turns : i < length xs → (u : ⊤) → judge_one x i n ≡ Ok u → judge_from (drop (i + 1) xs) (i + 1) n (longer bytes x.size) ≡ s
+  unfolding judge_from
+  judge_turns h u e = rw add-one (rw (rest_cons xs i h, add-one, e) at same)
 
-module _ (xs : List Section) (n : ℕ) where
-  pub judge_starts : JudgeAt xs n 0 (counted 8)
-  judge_starts = record { within = zero-le; clean = refl; same = refl }
+  -- a section with a fault, which is what the list comes to
+  pub judge_stops : i < length xs → (r : Refusal) → judge_one x i n ≡ Err r → Err r ≡ s
+  unfolding judge_from
+  judge_stops h r e = rw (rest_cons xs i h, e) at same
 
-  module _ (i : ℕ) (s : Judged) (p : JudgeAt xs n i s) where
-    abbrev x : Section
-    x = get_or xs i no_section
-
-    -- what is left begins with the section of the index
-    cut : i < length xs → drop i xs ≡ x ∷ drop (i + 1) xs
-    cut h = rest_cons xs i h
-
-    module _ (h : i < length xs) (r : Judged) (e : r ≡ judge_one x i n s.length) where
-      number_is : r.number ≡ fault_of x n
-      number_is = ap (λ (j : Judged). j.number) e ∙ one_number x i n s.length
-
-      -- a section without a fault: the turn is over
-      pub judge_turns : r.number ≡ 0 → JudgeAt xs n (i + 1) r
-      unfolding judge_one judge_from
-      judge_turns z =
-          let t : eqb (fault_of x n) 0 ≡ true = eq-eqb _ _ (sym number_is ∙ z) in
-          let g : r ≡ counted (longer s.length x.size) = simp t at e in
-          record {
-            within = omega arith;
-            clean = rw g refl;
-            same = rw (add-one, g) (rw add-one at (simp t at (rw (cut h) at p.same)));
-          }
-
-      -- a section with a fault, which is the answer
-      pub judge_stops : (r.number ≡ 0 → ⊥) → r ≡ judge_from xs 0 n 8
-      unfolding judge_one judge_from
-      judge_stops z =
-          let t : eqb (fault_of x n) 0 ≡ false = ne_eqb _ _ (λ q. z (number_is ∙ q)) in
-          let g : r ≡ faulty (fault_of x n) i = simp t at e in
-          g ∙ (simp t at (rw (cut h) at p.same))
-
-    -- the end of the list
-    pub judge_ends : length xs ≤ i → s ≡ judge_from xs 0 n 8
-    unfolding judge_from
-    judge_ends h =
-        let e : drop i xs ≡ [] = drop_of_length-le xs {i = i} h in
-        p.clean ∙ rw e at p.same
+  -- the end of the list
+  pub judge_ends : length xs ≤ i → Ok bytes ≡ s
+  unfolding judge_from
+  judge_ends h = let e : drop i xs ≡ [] = drop_of_length-le xs {i = i} h in rw e at same

@@ -1,11 +1,9 @@
 -- The bytes of one section: how many they are, and that the parts that are stored come to them.
-use Prim.Native.Nat.{ℕ, zero, suc, ◌+◌, ◌-◌, ◌≤◌, ◌<◌}
+use Prim.Native.Nat.{ℕ, zero, suc, ◌+◌, ◌-◌, ◌≤◌}
 use mathlib.Core.Path.{◌≡◌, refl, ap, ◌∙◌}
 use mathlib.Core.List.{List, [], ◌∷◌, ◌++◌, append_assoc}
-use native.Mathlib.Numerals.{add-one}
 use native.Mathlib.Omega.{arith}
-use lib.ListN.{length, get_or, take, drop, replicate, length-append, length-drop, length-replicate}
-use lib.Seq.{drop-cons, length-take-le}
+use lib.ListN.{length, take, drop, replicate, length-append, length-replicate}
 use Rattle.words.specs.declared.ByteOrder.{ByteOrder}
 use Rattle.words.specs.Header.{header_bytes}
 use Rattle.words.specs.Run.{over}
@@ -31,37 +29,6 @@ pub next_sect : (o : ByteOrder) (d : List ℕ) (x : Section) (at : ℕ) → faul
 unfolding next_of
 next_sect o d x at z = omega (arith, length_sect o d x z)
 
--- ---- data of one to four bytes, with its pads, is one word
-
--- the first of the bytes from an offset on, and the others
-first_of : (d : List ℕ) (i j n : ℕ) → i < length d → j ≡ i + 1 → take (suc n) (drop i d) ≡ get_or d i 0 ∷ take n (drop j d)
-first_of d i j n h e = rw (e, add-one, drop-cons d i 0 h) refl
-
-module _ (d : List ℕ) (i size : ℕ) (within : i + size ≤ length d) where
-  pub word_of_four : size ≡ 4 → get_or d i 0 ∷ get_or d (i + 1) 0 ∷ get_or d (i + 2) 0 ∷ get_or d (i + 3) 0 ∷ [] ≡ padded_data d i size
-  unfolding padded_data pad_count
-  word_of_four e =
-      rw (
-        e,
-        first_of d i (i + 1) 3 (omega arith) refl,
-        first_of d (i + 1) (i + 2) 2 (omega arith) (omega arith),
-        first_of d (i + 2) (i + 3) 1 (omega arith) (omega arith),
-        first_of d (i + 3) (i + 4) 0 (omega arith) (omega arith),
-      ) refl
-
-  pub word_of_three : size ≡ 3 → get_or d i 0 ∷ get_or d (i + 1) 0 ∷ get_or d (i + 2) 0 ∷ 0 ∷ [] ≡ padded_data d i size
-  unfolding padded_data pad_count
-  word_of_three e =
-      rw (e, first_of d i (i + 1) 2 (omega arith) refl, first_of d (i + 1) (i + 2) 1 (omega arith) (omega arith), first_of d (i + 2) (i + 3) 0 (omega arith) (omega arith)) refl
-
-  pub word_of_two : size ≡ 2 → get_or d i 0 ∷ get_or d (i + 1) 0 ∷ 0 ∷ 0 ∷ [] ≡ padded_data d i size
-  unfolding padded_data pad_count
-  word_of_two e = rw (e, first_of d i (i + 1) 1 (omega arith) refl, first_of d (i + 1) (i + 2) 0 (omega arith) (omega arith)) refl
-
-  pub word_of_one : size ≡ 1 → get_or d i 0 ∷ 0 ∷ 0 ∷ 0 ∷ [] ≡ padded_data d i size
-  unfolding padded_data pad_count
-  word_of_one e = rw (e, first_of d i (i + 1) 0 (omega arith) refl) refl
-
 -- ---- stored part by part
 
 -- the last p of four zeros
@@ -74,18 +41,20 @@ last_zeros (suc (suc (suc (suc zero)))) h = refl
 last_zeros (suc (suc (suc (suc (suc n))))) h = absurd (omega arith)
 
 -- a zero word at the end of data and pads, and then the data: what the data leaves of the word are the pads
-pub cleared_data : (d out : List ℕ) (start size at next : ℕ) → 4 ≤ size → start + size ≤ length d → next ≡ at + (size + pad_count size) → next ≤ length out → {o1 o2 : List ℕ}
-    → o1 ≡ over out (next - 4) (0 ∷ 0 ∷ 0 ∷ 0 ∷ []) → o2 ≡ over o1 at (take (start + size - start) (drop start d)) → o2 ≡ over out at (padded_data d start size)
+pub cleared_data : (body out : List ℕ) (at next : ℕ) → 4 ≤ length body → next ≡ at + (length body + pad_count (length body)) → next ≤ length out → {o1 o2 : List ℕ}
+    → o1 ≡ over out (next - 4) (0 ∷ 0 ∷ 0 ∷ 0 ∷ []) → o2 ≡ over o1 at body → o2 ≡ over out at (padded_data body)
 unfolding padded_data
-cleared_data d out start size at next long within is room {o1} {o2} e1 e2 =
-    let pads : ℕ = pad_count size in
-    let body : List ℕ = take size (drop start d) in
-    let l : pads ≤ 4 = omega (arith, pad_lt size) in
-    let lb : length body ≡ size = length-take-le size (drop start d) (simp length-drop (omega arith)) in
+cleared_data body out at next long is room {o1} {o2} e1 e2 =
+    let pads : ℕ = pad_count (length body) in
+    let l : pads ≤ 4 = omega (arith, pad_lt (length body)) in
     let lz : length (replicate {A = ℕ} 4 0) ≡ 4 = refl in
-    let n : start + size - start ≡ size = omega arith in
-    rw (e2, e1, n) (over_before out (next - 4) (replicate 4 0) (omega arith) at (4 - pads) body (omega arith) (omega arith) (omega arith)
+    rw (e2, e1) (over_before out (next - 4) (replicate 4 0) (omega arith) at (4 - pads) body (omega arith) (omega arith) (omega arith)
     ∙ ap (λ (z : List ℕ). over out at (body ++ z)) (last_zeros pads l))
+
+-- the data from a section's start to its end is the section's
+pub part_data : (d : List ℕ) (x : Section) → take (x.start + x.size - x.start) (drop x.start d) ≡ data_of d x
+unfolding data_of
+part_data d x = let n : x.start + x.size - x.start ≡ x.size = omega arith in rw n refl
 
 -- size word, address word, data and pads are the section's bytes
 module _ (o : ByteOrder) (b d : List ℕ) (x : Section) (at : ℕ) (faultless : fault_of x (length b) ≡ 0) (room : next_of at x.size ≤ length d) where
@@ -95,10 +64,10 @@ module _ (o : ByteOrder) (b d : List ℕ) (x : Section) (at : ℕ) (faultless : 
   section_room = let s = faultless_section x (length b) faultless in (s.0, s.1, omega (arith, room))
 
   pub section_parts : {o1 o2 o3 : List ℕ} → o1 ≡ over d at (header_bytes o x.size) → o2 ≡ over o1 (at + 4) (header_bytes o x.address)
-      → o3 ≡ over o2 (at + 8) (padded_data b x.start x.size) → o3 ≡ over d at (chunk o (sect_of b x))
-  unfolding chunk sect_of data_of padded_data
+      → o3 ≡ over o2 (at + 8) (padded_data (data_of b x)) → o3 ≡ over d at (chunk o (sect_of b x))
+  unfolding chunk sect_of padded_data
   section_parts {o1} {o2} {o3} e1 e2 e3 =
-      let body : List ℕ = take x.size (drop x.start b) in
+      let body : List ℕ = data_of b x in
       let pads : List ℕ = replicate (pad_count x.size) 0 in
       let w1 : List ℕ = header_bytes o x.size in
       let w2 : List ℕ = header_bytes o x.address in
@@ -109,4 +78,4 @@ module _ (o : ByteOrder) (b d : List ℕ) (x : Section) (at : ℕ) (faultless : 
       let lb : length body ≡ x.size = length_data b x faultless in
       let same : w1 ++ w2 ++ (body ++ pads) ≡ header_bytes o (length body) ++ w2 ++ body ++ pads = rw lb (simp append_assoc) in
       let words : o2 ≡ over d at (w1 ++ w2) = rw (e2, e1) (over_over d at w1 (omega arith) w2 (at + 4) (omega arith)) in
-      e3 ∙ ap (λ (y : List ℕ). over y (at + 8) (body ++ pads)) words ∙ over_over d at (w1 ++ w2) (omega arith) (body ++ pads) (at + 8) (omega arith) ∙ ap (over d at) same
+      rw lb at e3 ∙ ap (λ (y : List ℕ). over y (at + 8) (body ++ pads)) words ∙ over_over d at (w1 ++ w2) (omega arith) (body ++ pads) (at + 8) (omega arith) ∙ ap (over d at) same

@@ -17,9 +17,8 @@ use Rattle.boot_table.specs.Valid as Valids
 use Rattle.boot_table.specs.Valid.{Valid, All}
 use Rattle.boot_table.proofs.RoundTrip.{read_table, entry_table, table_read, valid_read, length_read, read_middle}
 use Rattle.writer.specs.declared.Section.{Section}
-use Rattle.writer.specs.declared.Written.{Written}
 use Rattle.writer.specs.Write as Write
-use Rattle.writer.specs.Write.{data_of, sect_of, sects_of, written_table, fault_of, Faultless, write_answer, write_output}
+use Rattle.writer.specs.Write.{WriteAnswer, data_of, sect_of, sects_of, written_table, fault_of, Faultless, write_answer, write_output}
 use Rattle.writer.specs.Trips as Trips
 use Rattle.writer.specs.Trips.{Writable, written_in, ReadsBack, WrittenReads, own_data, own_list, Words, ZeroPads, Rewritten, TablesRewritten}
 use Rattle.writer.proofs.FaultLaws.{faultless_section, fault_none, length_data}
@@ -32,7 +31,7 @@ module _ (o : ByteOrder) (entry : ℕ) (xs : List Section) (d : List ℕ) where
   pub writable_iff : (room : ℕ) → ((write_answer o entry xs d room).number ≡ 0) ↔ (Writable o entry xs d room)
   writable_iff room = (
     λ z. let w = write_only o entry xs d room z in record { faultless = w.0; short = w.1; fits = w.2 },
-    λ w. ap (λ (r : Written). r.number) (write_accepts o entry xs d room w.faultless w.short w.fits),
+    λ w. ap (λ (r : WriteAnswer). r.number) (write_accepts o entry xs d room w.faultless w.short w.fits),
   )
 
   module _ (out : List ℕ) (w : Writable o entry xs d (length out)) where
@@ -48,7 +47,7 @@ module _ (o : ByteOrder) (entry : ℕ) (xs : List Section) (d : List ℕ) where
     -- the output's first bytes, as many as are reported, are the table, and the bytes past it are kept
     pub write_front : written_in o entry xs d out ≡ table
     unfolding written_in
-    write_front = ap (λ (r : Written). take r.length (write_output o entry xs d out)) accepts ∙ rw holds (take_at table (drop (length table) out) (length table) refl)
+    write_front = ap (λ (r : WriteAnswer). take r.length (write_output o entry xs d out)) accepts ∙ rw holds (take_at table (drop (length table) out) (length table) refl)
 
     pub write_rest : drop (length table) (write_output o entry xs d out) ≡ drop (length table) out
     write_rest = rw holds (drop_at table (drop (length table) out) (length table) refl)

@@ -9,15 +9,14 @@ use Rattle.words.specs.Header.{header_bytes}
 use Rattle.words.specs.Run.{over}
 use Rattle.boot_table.specs.Table.{chunks}
 use Rattle.writer.specs.declared.Section.{Section}
-use Rattle.writer.specs.declared.Written.{Written}
-use Rattle.writer.specs.Write.{sects_of, Faultless, write_answer, write_output}
+use Rattle.writer.specs.Write.{WriteAnswer, sects_of, Faultless, write_answer, write_output}
 use Rattle.writer.proofs.AnswerLaws.{length_written, write_only, output_written, parts_written}
 
 -- the answer r has number 0; o₁, o₂ and o₃ are the output after the entry word, the sections and the zero word
-module _ (o : ByteOrder) (entry : ℕ) (xs : List Section) (d out : List ℕ) (r : Written) (e : r ≡ write_answer o entry xs d (length out)) (z : r.number ≡ 0) where
+module _ (o : ByteOrder) (entry : ℕ) (xs : List Section) (d out : List ℕ) (r : WriteAnswer) (e : r ≡ write_answer o entry xs d (length out)) (z : r.number ≡ 0) where
   faultless_fits : (Faultless (length d) xs) × (8 + length (chunks o (sects_of xs d)) ≤ length out)
   faultless_fits =
-      let w = write_only o entry xs d (length out) (sym (ap (λ (w : Written). w.number) e) ∙ z) in
+      let w = write_only o entry xs d (length out) (sym (ap (λ (w : WriteAnswer). w.number) e) ∙ z) in
       (w.0, rw length_written at w.2)
 
   pub entry_fits : 0 + 4 ≤ length out

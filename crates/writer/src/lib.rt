@@ -5,187 +5,106 @@ ghost use Rattle.std.specs.Prelude.{◌≡◌, ◌+◌, ◌^◌, ◌≤◌, ◌<
 ghost use Rattle.words.specs.Run.{over};
 ghost use Rattle.words.specs.Word.{pad_count};
 ghost use Rattle.boot_table.specs.Table.{next_of, chunk, chunks};
-ghost use Rattle.writer.specs.Write.{sect_of, sects_of, fault_of, Faultless, write_refused, write_answer, write_output};
-ghost use Rattle.writer.specs.Judging.{longer, judge_one, judge_from, answer_of, padded_data};
+ghost use Rattle.writer.specs.Write.{sect_of, sects_of, fault_of, Faultless, write_answer, write_output, answer_of};
+ghost use Rattle.writer.specs.Judging.{longer, judge_one, judge_from, padded_data};
 
 use boot_table::{TABLE_LIMIT, is_past_top};
-use words::refusal::{OUTPUT_SHORT, PAST_DATA, PAST_TOP, RESULT_LONG, SIZE_ZERO};
-use words::{ByteOrder, copy, padded, put_four, put_header};
+use words::{ByteOrder, Refusal, copy, padded, put_four, put_header};
 
 // A section of the list: its address, and where its data begins in the lent data and how many bytes it has.
 #[repr(C)]
-#[derive(Clone, Copy)]
+#[derive(Clone, Copy, Debug, PartialEq, Eq)]
 pub struct Section {
     pub address: u32,
     pub start: u32,
     pub size: u32,
 }
 
-// What writing answers. The number is 0 where the output holds the table, and length and sections are then the table's.
-#[derive(Clone, Copy)]
+// How many bytes and sections the table has that the output holds.
+#[derive(Clone, Copy, Debug, PartialEq, Eq)]
 pub struct Written {
-    pub number: u32,
-    pub place: usize,
     pub length: usize,
     pub sections: usize,
 }
 
-// What a list comes to: number 0 and the length of its table, or the first bad section's fault and index.
-#[derive(Clone, Copy)]
-struct Judged {
-    number: u32,
-    place: usize,
-    length: usize,
-}
-
 // ---- judging the list
 
-// The number of a section's first fault, where so many bytes of data are lent; 0 where it has none.
-fn section_fault(section: Section, bytes: usize) -> u32
-    ensures { result ≡ fault_of section bytes }
+// Judges the section of a place in the list, where so many bytes of data are lent.
+#[tactic(auto, unfolding(crate::specs::Judging::judge_one))]
+fn judge_section(section: Section, place: usize, bytes: usize) -> Result<(), Refusal>
+    ensures { result ≡ judge_one section place bytes }
 {
-    let size = section.size as usize;
-    if size == 0 {
-        return SIZE_ZERO;
+    if section.size == 0 {
+        return Err(Refusal::SizeZero { place });
     }
-    if bytes < section.start as usize + size {
-        return PAST_DATA;
+    if bytes < section.start as usize + section.size as usize {
+        return Err(Refusal::PastData { place });
     }
-    if is_past_top(section.address, size) {
-        return PAST_TOP;
+    if is_past_top(section.address, section.size) {
+        return Err(Refusal::PastTop { place });
     }
-    0
+    Ok(())
 }
 
 // The length of a table with a section more. A length over the limit is not counted further, so that no sum is too large.
-fn longer(length: usize, size: usize) -> usize
-    requires { size < 2 ^ 32 }
-    ensures { result ≡ longer length size }
+#[tactic(auto, using(words::proofs::WordLaws::pad_lt), unfolding(crate::specs::Judging::longer, boot_table::specs::Table::next_of))]
+fn longer(bytes: usize, size: u32) -> usize
+    ensures { result ≡ longer bytes size }
 {
-    if TABLE_LIMIT < length {
-        return length;
+    if TABLE_LIMIT < bytes {
+        return bytes;
     }
-    length + 8 + padded(size)
+    bytes + 8 + padded(size)
 }
 
-// Judges the section of an index, behind a table of so many bytes.
-fn judge_section(section: Section, index: usize, bytes: usize, length: usize) -> Judged
-    ensures { result ≡ judge_one section index bytes length }
-{
-    let number = section_fault(section, bytes);
-    if number != 0 {
-        return Judged {
-            number: number,
-            place: index,
-            length: 0,
-        };
-    }
-    Judged {
-        number: 0,
-        place: 0,
-        length: longer(length, section.size as usize),
-    }
-}
-
-// Judges the sections of a list over so many bytes of data.
-fn judge_sections(sections: &[Section], bytes: usize) -> Judged
+// Judges the sections of a list over so many bytes of data; answers the length of their table.
+#[tactic(auto, using(crate::proofs::JudgeLaws::judge_turns, crate::proofs::JudgeLaws::judge_stops, crate::proofs::JudgeLaws::judge_ends))]
+fn judge_sections(sections: &[Section], bytes: usize) -> Result<usize, Refusal>
     ensures { result ≡ judge_from sections.now 0 bytes 8 }
 {
-    let mut judged = Judged {
-        number: 0,
-        place: 0,
-        length: 8,
-    };
-    let mut i = 0;
-    while i < sections.len() {
-        judged = judge_section(sections[i], i, bytes, judged.length);
-        if judged.number != 0 {
-            return judged;
-        }
-        i += 1;
+    let mut length = 8;
+    for (place, section) in sections.iter().enumerate() {
+        judge_section(*section, place, bytes)?;
+        length = longer(length, section.size);
     }
-    judged
-}
-
-fn refused(number: u32, place: usize) -> Written
-    ensures { result ≡ write_refused number place }
-{
-    Written {
-        number: number,
-        place: place,
-        length: 0,
-        sections: 0,
-    }
-}
-
-// What is answered where a list of so many sections was judged, for an output with room for so many bytes.
-fn answer_of(judged: Judged, sections: usize, room: usize) -> Written
-    ensures { result ≡ answer_of judged sections room }
-{
-    if judged.number != 0 {
-        return refused(judged.number, judged.place);
-    }
-    if TABLE_LIMIT < judged.length {
-        return refused(RESULT_LONG, 0);
-    }
-    if room < judged.length {
-        return refused(OUTPUT_SHORT, 0);
-    }
-    Written {
-        number: 0,
-        place: 0,
-        length: judged.length,
-        sections: sections,
-    }
+    Ok(length)
 }
 
 // ---- writing the table
 
 // Writes data of one to four bytes, with zero pads, into a word of the output.
-fn put_short(data: &[u8], start: usize, size: usize, output: &mut [u8], at: usize)
-    requires { (1 ≤ size) × (size ≤ 4) × (start + size ≤ length «data».now) × (at + 4 ≤ length output.old) }
-    ensures { output.new ≡ over output.old at (padded_data «data».now start size) }
+#[tactic(auto, unfolding(crate::specs::Judging::padded_data, words::specs::Word::pad_count))]
+fn put_short(body: &[u8], output: &mut [u8], at: usize)
+    requires { (1 ≤ length body.now) × (length body.now ≤ 4) × (at + 4 ≤ length output.old) }
+    ensures { output.new ≡ over output.old at (padded_data body.now) }
 {
-    match size {
-        4 => put_four(
-            [
-                data[start],
-                data[start + 1],
-                data[start + 2],
-                data[start + 3],
-            ],
-            output,
-            at,
-        ),
-        3 => put_four(
-            [data[start], data[start + 1], data[start + 2], 0],
-            output,
-            at,
-        ),
-        2 => put_four([data[start], data[start + 1], 0, 0], output, at),
-        _ => put_four([data[start], 0, 0, 0], output, at),
+    match *body {
+        [a, b, c, d] => put_four([a, b, c, d], output, at),
+        [a, b, c] => put_four([a, b, c, 0], output, at),
+        [a, b] => put_four([a, b, 0, 0], output, at),
+        _ => put_four([body[0], 0, 0, 0], output, at),
     }
 }
 
 // Writes a section's data, with zero pads, into the output from an offset on; answers the offset after the pads.
-fn put_data(data: &[u8], start: usize, size: usize, output: &mut [u8], at: usize) -> usize
-    requires { (1 ≤ size) × (size < 2 ^ 32) × (start + size ≤ length «data».now) × (at + (size + pad_count size) ≤ length output.old) }
-    ensures { (result ≡ at + (size + pad_count size)) × (output.new ≡ over output.old at (padded_data «data».now start size)) }
+#[tactic(auto, unfolding(words::specs::Word::pad_count))]
+fn put_data(body: &[u8], output: &mut [u8], at: usize) -> usize
+    requires { (1 ≤ length body.now) × (length body.now < 2 ^ 32) × (at + (length body.now + pad_count (length body.now)) ≤ length output.old) }
+    ensures { (result ≡ at + (length body.now + pad_count (length body.now))) × (output.new ≡ over output.old at (padded_data body.now)) }
 {
-    let whole = padded(size);
-    let next = at + whole;
-    if size <= 4 {
-        put_short(data, start, size, output, at);
+    let next = at + padded(body.len() as u32);
+    if body.len() <= 4 {
+        put_short(body, output, at);
         return next;
     }
     // The last word is cleared before the data is copied: what the data leaves of it are the pads.
     put_four([0; 4], output, next - 4);
-    let end = start + size;
-    copy(&data[start..end], &mut output[at..]);
+    copy(body, &mut output[at..]);
     next
 }
 
 // Writes a section into the output from an offset on; answers the offset after it.
+#[tactic(auto, using(crate::proofs::FaultLaws::faultless_section), unfolding(boot_table::specs::Table::next_of))]
 fn put_section(
     section: Section,
     data: &[u8],
@@ -198,13 +117,9 @@ fn put_section(
 {
     put_header(section.size, order, output, at);
     put_header(section.address, order, output, at + 4);
-    put_data(
-        data,
-        section.start as usize,
-        section.size as usize,
-        output,
-        at + 8,
-    )
+    let start = section.start as usize;
+    let body = &data[start..start + section.size as usize];
+    put_data(body, output, at + 8)
 }
 
 // Writes the sections of a list into the output, behind the entry word; answers the offset after them.
@@ -213,10 +128,8 @@ fn put_sections(sections: &[Section], data: &[u8], order: ByteOrder, output: &mu
     ensures { (result ≡ 4 + length (chunks order (sects_of sections.now «data».now))) × (output.new ≡ over output.old 4 (chunks order (sects_of sections.now «data».now))) }
 {
     let mut at: usize = 4;
-    let mut i = 0;
-    while i < sections.len() {
-        at = put_section(sections[i], data, order, output, at);
-        i += 1;
+    for section in sections {
+        at = put_section(*section, data, order, output, at);
     }
     at
 }
@@ -228,16 +141,22 @@ pub fn write(
     data: &[u8],
     order: ByteOrder,
     output: &mut [u8],
-) -> Written
-    ensures value { result ≡ write_answer order entry sections.now «data».now (length output.old) }
+) -> Result<Written, Refusal>
+    ensures value { answer_of result ≡ write_answer order entry sections.now «data».now (length output.old) }
     ensures output_after { output.new ≡ write_output order entry sections.now «data».now output.old }
 {
-    let judged = judge_sections(sections, data.len());
-    let answer = answer_of(judged, sections.len(), output.len());
-    if answer.number == 0 {
-        put_header(entry, order, output, 0);
-        let end = put_sections(sections, data, order, output);
-        put_header(0, order, output, end);
+    let length = judge_sections(sections, data.len())?;
+    if TABLE_LIMIT < length {
+        return Err(Refusal::ResultLong);
     }
-    answer
+    if output.len() < length {
+        return Err(Refusal::OutputShort);
+    }
+    put_header(entry, order, output, 0);
+    let end = put_sections(sections, data, order, output);
+    put_header(0, order, output, end);
+    Ok(Written {
+        length,
+        sections: sections.len(),
+    })
 }

@@ -14,8 +14,8 @@ pub record SoFar (t xs vs₀ vs : List ℕ) (at n : ℕ) : Type 0 where
   pub lengths : length vs ≡ length xs
   pub whole : applied t xs vs₀ ≡ applied_on t xs n vs
 
-abbrev pub invariant-loop-register : goal.invariant-loop-register
-invariant-loop-register l = SoFar l.table l.addresses l.initial.values l.values l.at l.entries
+abbrev pub invariant-loop-change : goal.invariant-loop-change
+invariant-loop-change l = SoFar l.table l.addresses l.initial.values l.values l.at l.entries
 
-abbrev pub decreases-loop-register : goal.decreases-loop-register
-decreases-loop-register l = length l.table - l.at
+abbrev pub decreases-loop-change : goal.decreases-loop-change
+decreases-loop-change l = length l.table - l.at

@@ -1,19 +1,20 @@
--- `boot_config::changed_bits`: the bits counted so far and those from register i on come to all.
-use native.Mathlib.Omega.{arith}
-use Rattle.boot_config.proofs.BitLaws.{differ_le, changed_on, changed_end}
+-- `boot_config::changed_bits`: what the pairs of values add, summed.
+use Rattle.std.proofs.Common.{rules, arith, ◌∙◌, ℕ}
+use Rattle.std.specs.Int.Bits.{bit_xor}
+use Rattle.std.specs.Int.Count.{ones}
+use Rattle.std.proofs.lemmas.Iterator.{YieldsList-from_slice, YieldsList-from_zip, YieldsList-from_map}
+use Rattle.std.proofs.lemmas.Iterator.Consumers.{sum_from_yields_List, fits_from_yields_list}
+use Rattle.boot_config.proofs.BitLaws.{changed_sum, changed_le}
 use Rattle.boot_config.proofs.changed_bits.Goals as goal
 
-pub overflow_add-sum : goal.overflow_add-sum
-overflow_add-sum c =
-    let i = c.loop-i.i in
-    omega (arith, differ_le (c.type_inv.old i) (c.type_inv.new i))
-
-pub loop-i-preserved : goal.loop-i-preserved
-loop-i-preserved c =
-    let i = c.loop-i.i in
-    let d = differ_le (c.type_inv.old i) (c.type_inv.new i) in
-    let s = changed_on c.args.old.now c.args.new.now i (omega arith) (omega arith) in
-    (omega arith, omega arith, omega arith)
+pub sum-requires-clause-fits : goal.sum-requires-clause-fits
+sum-requires-clause-fits c =
+    fits_from_yields_list c.map.result _
+    (YieldsList-from_map _ (λ (p : ℕ × ℕ). ones (bit_xor p.0 p.1)) (YieldsList-from_zip (YieldsList-from_slice c.args.old.now cc) (YieldsList-from_slice c.args.new.now cc)) c.map.ensures.closure (λ x r q k. search rules))
+    (omega (arith, changed_sum c.args.old.now c.args.new.now, changed_le _ _ c.type_inv.old c.type_inv.new))
 
 pub returns : goal.returns
-returns c = omega (arith, changed_end c.args.old.now c.args.new.now c.loop-i.i c.loop-i-test.false)
+returns c =
+    sum_from_yields_List c.map.result _ c.sum.ensures.ran
+    (YieldsList-from_map _ (λ (p : ℕ × ℕ). ones (bit_xor p.0 p.1)) (YieldsList-from_zip (YieldsList-from_slice c.args.old.now cc) (YieldsList-from_slice c.args.new.now cc)) c.map.ensures.closure (λ x r q k. search rules))
+    ∙ changed_sum _ _

@@ -16,8 +16,8 @@ pub record Passed (o : ByteOrder) (t : List ℕ) (at k b : ℕ) : Type 0 where
   pub small : b ≤ at
   pub form : form_of o t ≡ tally k b (read_on o t at)
 
-abbrev pub invariant-loop-size : goal.invariant-loop-size
-invariant-loop-size l = Passed l.order l.table l.at l.sections l.bytes
+abbrev pub invariant-loop-section : goal.invariant-loop-section
+invariant-loop-section l = Passed l.order l.table l.at l.sections l.bytes
 
-abbrev pub decreases-loop-size : goal.decreases-loop-size
-decreases-loop-size l = length l.table - l.at
+abbrev pub decreases-loop-section : goal.decreases-loop-section
+decreases-loop-section l = length l.table - l.at

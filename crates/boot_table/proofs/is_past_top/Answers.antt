@@ -15,4 +15,4 @@ past_top address size h =
     (λ k. lt-ltb (2 ^ 32 - size) address (omega arith) ∙ sym (lt-ltb (2 ^ 32) (address + size) (omega arith)))
 
 pub returns : goal.returns
-returns c = past_top _ _ c.requires
+returns c = past_top _ _ (omega arith)

@@ -17,8 +17,8 @@ pub record Copied (o : ByteOrder) (t d : List ℕ) (from : ℕ) (out : List ℕ)
   pub same : length out ≡ length d
   pub is : out ≡ over d from (take (at - 4) (drop 4 t))
 
-abbrev pub invariant-loop-next : goal.invariant-loop-next
-invariant-loop-next l = Copied l.order l.table l.initial.output l.from l.output l.at l.to
+abbrev pub invariant-loop-section : goal.invariant-loop-section
+invariant-loop-section l = Copied l.order l.table l.initial.output l.from l.output l.at l.to
 
-abbrev pub decreases-loop-next : goal.decreases-loop-next
-decreases-loop-next l = length l.table - l.at
+abbrev pub decreases-loop-section : goal.decreases-loop-section
+decreases-loop-section l = length l.table - l.at

@@ -1,4 +1,5 @@
 -- `listing::digit`: below ten a figure, else a letter.
+use native.Mathlib.Omega.{arith}
 use borrow.Author.Tests.{lt-ltb, le-ltb}
 use Rattle.listing.specs.Text.{digit_of}
 use Rattle.listing.proofs.digit.Goals as goal
@@ -9,4 +10,4 @@ returns-then-d-lt10 c = simp (lt-ltb _ _ c.if-d-lt10.true)
 
 pub returns-else-d-lt10 : goal.returns-else-d-lt10
 unfolding digit_of
-returns-else-d-lt10 c = simp (le-ltb _ _ c.if-d-lt10.false)
+returns-else-d-lt10 c = simp (le-ltb _ _ c.if-d-lt10.false) (omega arith)

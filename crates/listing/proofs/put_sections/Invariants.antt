@@ -16,8 +16,8 @@ pub record Listed (o : ByteOrder) (t d : List ℕ) (from : ℕ) (out : List ℕ)
   pub place : from + length (section_lines (reading o t).sections) ≡ to + length (section_lines (read_on o t at).sections)
   pub rest : over d from (section_lines (reading o t).sections) ≡ over out to (section_lines (read_on o t at).sections)
 
-abbrev pub invariant-loop-address : goal.invariant-loop-address
-invariant-loop-address l = Listed l.order l.table l.initial.buffer l.from l.buffer l.at l.to
+abbrev pub invariant-loop-section : goal.invariant-loop-section
+invariant-loop-section l = Listed l.order l.table l.initial.buffer l.from l.buffer l.at l.to
 
-abbrev pub decreases-loop-address : goal.decreases-loop-address
-decreases-loop-address l = length l.table - l.at
+abbrev pub decreases-loop-section : goal.decreases-loop-section
+decreases-loop-section l = length l.table - l.at

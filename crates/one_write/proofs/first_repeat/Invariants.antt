@@ -4,8 +4,8 @@ use lib.ListN.{length}
 use Rattle.one_write.proofs.WalkLaws.{Behind}
 use Rattle.one_write.proofs.first_repeat.Given as goal
 
-abbrev pub invariant-loop-address : goal.invariant-loop-address
-invariant-loop-address l = Behind l.order l.map l.table l.offset l.earlier
+abbrev pub invariant-loop-section : goal.invariant-loop-section
+invariant-loop-section l = Behind l.order l.map l.table l.offset l.earlier
 
-abbrev pub decreases-loop-address : goal.decreases-loop-address
-decreases-loop-address l = length l.table - l.offset
+abbrev pub decreases-loop-section : goal.decreases-loop-section
+decreases-loop-section l = length l.table - l.offset

@@ -1,5 +1,5 @@
 -- `one_write::stored_before`: of the range, the sections that are left say the same as all the first ones.
-use Prim.Native.Nat.{ℕ, ◌≤◌, ◌<◌}
+use Prim.Native.Nat.{ℕ, ◌-◌, ◌≤◌, ◌<◌}
 use mathlib.Core.Path.{◌≡◌}
 use mathlib.Core.List.{List}
 use lib.ListN.{take}
@@ -13,8 +13,5 @@ pub record Left (o : ByteOrder) (m t : List ℕ) (k first end at left : ℕ) : T
   pub whole : (read_on o t at).fault ≡ 0
   pub rest : (x : ℕ) → first ≤ x → x < end → written m (take k (reading o t).sections) x ≡ written m (take left (read_on o t at).sections) x
 
-abbrev pub invariant-loop-left : goal.invariant-loop-left
-invariant-loop-left l = Left l.order l.map l.table l.sections l.first l.end l.offset l.left
-
-abbrev pub decreases-loop-left : goal.decreases-loop-left
-decreases-loop-left l = l.left
+abbrev pub invariant-loop : goal.invariant-loop
+invariant-loop l = Left l.order l.map l.table l.sections l.span.first l.span.end l.offset (l.sections - l.counter)

@@ -3,6 +3,7 @@ use Prim.Native.Nat.{ℕ, ◌≤◌, ◌-◌}
 use mathlib.Core.Path.{◌≡◌}
 use mathlib.Core.List.{List}
 use lib.ListN.{length}
+use Rattle.std.specs.Prelude.{Option}
 use Rattle.words.specs.declared.ByteOrder.{ByteOrder}
 use Rattle.boot_table.specs.Table.{read_on}
 use Rattle.query.specs.declared.Hit.{Hit}
@@ -11,13 +12,13 @@ use Rattle.query.proofs.WalkLaws.{resume}
 use Rattle.query.proofs.walk_headers.Given as goal
 
 -- no more bytes were read than stand before at, and what is read on decides what the walk comes to
-pub record Passed (o : ByteOrder) (t : List ℕ) (a at : ℕ) (hit : Hit) (read : ℕ) : Type 0 where
+pub record Passed (o : ByteOrder) (t : List ℕ) (a at : ℕ) (hit : Option Hit) (read : ℕ) : Type 0 where
   pub within : at ≤ length t
   pub few : read ≤ at
   pub is : walked o t a ≡ resume a hit read at (read_on o t at)
 
-abbrev pub invariant-loop-first : goal.invariant-loop-first
-invariant-loop-first l = Passed l.order l.table l.address l.at l.hit l.read
+abbrev pub invariant-loop-section : goal.invariant-loop-section
+invariant-loop-section l = Passed l.order l.table l.address l.at l.hit l.read
 
-abbrev pub decreases-loop-first : goal.decreases-loop-first
-decreases-loop-first l = length l.table - l.at
+abbrev pub decreases-loop-section : goal.decreases-loop-section
+decreases-loop-section l = length l.table - l.at

@@ -39,11 +39,6 @@ slice_bounds-write_rescued-end c =
     let f = ready (goal.at.slice_bounds-write_rescued-end c).After-whole_run-run in
     sym (length-take-le _ c.args.table.now (omega (arith, f.front.within)))
 
-pub write_rescued-requires : goal.write_rescued-requires
-write_rescued-requires c =
-    let f = ready (goal.at.write_rescued-requires c).After-whole_run-run in
-    omega (arith, length-take-le c.whole_run-run.result.end c.args.table.now f.front.within)
-
 pub overflow_sub-unused : goal.overflow_sub-unused
 overflow_sub-unused c =
     let f = ready (goal.at.overflow_sub-unused c).After-whole_run-run in

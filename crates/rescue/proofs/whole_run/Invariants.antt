@@ -14,8 +14,8 @@ pub record Passed (o : ByteOrder) (t : List ℕ) (at k : ℕ) : Type 0 where
   pub few : k ≤ at
   pub run : whole_run o t ≡ run_on o k at (read_on o t at)
 
-abbrev pub invariant-loop-next : goal.invariant-loop-next
-invariant-loop-next l = Passed l.order l.table l.at l.sections
+abbrev pub invariant-loop-section : goal.invariant-loop-section
+invariant-loop-section l = Passed l.order l.table l.at l.sections
 
-abbrev pub decreases-loop-next : goal.decreases-loop-next
-decreases-loop-next l = length l.table - l.at
+abbrev pub decreases-loop-section : goal.decreases-loop-section
+decreases-loop-section l = length l.table - l.at

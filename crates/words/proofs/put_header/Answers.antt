@@ -1,12 +1,10 @@
 -- `words::put_header`: the bytes of the word from the highest to the lowest, or the other way round.
-use Rattle.words.specs.Word.{word_bytes}
-use Rattle.words.specs.Header.{header_bytes}
+use mathlib.Core.Path.{sym}
+use Rattle.words.proofs.HeaderLaws.{high_bytes, low_bytes}
 use Rattle.words.proofs.put_header.Goals as goal
 
 pub returns-in-HighFirst : goal.returns-in-HighFirst
-unfolding header_bytes word_bytes
-returns-in-HighFirst c = rw c.in-HighFirst.is c.put_four.ensures
+returns-in-HighFirst c = rw (c.in-HighFirst.is, sym (high_bytes c.args.word), sym c.to_be_bytes.ensures) c.put_four.ensures
 
 pub returns-in-LowFirst : goal.returns-in-LowFirst
-unfolding header_bytes
-returns-in-LowFirst c = rw c.in-LowFirst.is c.put_four-in-LowFirst.ensures
+returns-in-LowFirst c = rw (c.in-LowFirst.is, sym (low_bytes c.args.word), sym c.to_le_bytes.ensures) c.put_four-in-LowFirst.ensures

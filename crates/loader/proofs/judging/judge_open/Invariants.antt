@@ -4,8 +4,8 @@ use lib.ListN.{length}
 use Rattle.loader.specs.Judging.{Counted, Passed}
 use Rattle.loader.proofs.judging.judge_open.Given as goal
 
-abbrev pub invariant-loop-address : goal.invariant-loop-address
-invariant-loop-address l = Counted l.table l.walk × Passed l.order l.map l.table l.walk l.known
+abbrev pub invariant-loop-section : goal.invariant-loop-section
+invariant-loop-section l = Counted l.table l.walk × Passed l.order l.map l.table l.walk l.known
 
-abbrev pub decreases-loop-address : goal.decreases-loop-address
-decreases-loop-address l = length l.table - l.walk.offset
+abbrev pub decreases-loop-section : goal.decreases-loop-section
+decreases-loop-section l = length l.table - l.walk.offset

@@ -17,7 +17,7 @@ returns-then-next-longer c =
       is = record { opens = i.is.opens; clears = c.clear_past.ensures.clear };
       from = i.from;
       far = i.far;
-      why = λ l. open_none _ _ _ c.clear_past.ensures (omega (arith, c.lower-next.ensures, c.permitted_until.ensures));
+      why = λ l. open_none _ _ _ c.clear_past.ensures (omega (arith, c.min-next.ensures, c.permitted_until.ensures));
     }
 
 pub loop-longer-preserved : goal.loop-longer-preserved
@@ -25,7 +25,7 @@ loop-longer-preserved c =
     let i = c.loop-longer.invariant in
     record {
       is = record {
-        opens = open_join _ _ _ _ i.is.opens (λ x l u. open_next _ _ _ c.clear_past.ensures x l (omega (arith, c.lower-next.ensures, c.permitted_until.ensures)));
+        opens = open_join _ _ _ _ i.is.opens (λ x l u. open_next _ _ _ c.clear_past.ensures x l (omega (arith, c.min-next.ensures, c.permitted_until.ensures)));
         clears = λ x l u. c.clear_past.ensures.clear x (omega arith) u;
       };
       from = i.from;

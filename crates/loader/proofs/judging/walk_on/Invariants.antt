@@ -4,8 +4,8 @@ use lib.ListN.{length}
 use Rattle.loader.specs.Judging.{WalkedOn}
 use Rattle.loader.proofs.judging.walk_on.Given as goal
 
-abbrev pub invariant-loop-address : goal.invariant-loop-address
-invariant-loop-address l = WalkedOn l.order l.table l.initial.on l.stretch l.on
+abbrev pub invariant-loop-section : goal.invariant-loop-section
+invariant-loop-section l = WalkedOn l.order l.table l.initial.on l.stretch l.on
 
-abbrev pub decreases-loop-address : goal.decreases-loop-address
-decreases-loop-address l = length l.table - l.on.offset
+abbrev pub decreases-loop-section : goal.decreases-loop-section
+decreases-loop-section l = length l.table - l.on.offset

@@ -20,8 +20,8 @@ pub record Stored (o : ByteOrder) (m t mem₀ mem : List ℕ) (at : ℕ) (r : Re
   pub rest : store_all m mem₀ (reading o t).sections ≡ store_all m mem (read_on o t at).sections
   pub places : Places m r
 
-abbrev pub invariant-loop-address : goal.invariant-loop-address
-invariant-loop-address l = Stored l.order l.map l.table l.initial.memory l.memory l.at l.region
+abbrev pub invariant-loop-section : goal.invariant-loop-section
+invariant-loop-section l = Stored l.order l.map l.table l.initial.memory l.memory l.at l.region
 
-abbrev pub decreases-loop-address : goal.decreases-loop-address
-decreases-loop-address l = length l.table - l.at
+abbrev pub decreases-loop-section : goal.decreases-loop-section
+decreases-loop-section l = length l.table - l.at

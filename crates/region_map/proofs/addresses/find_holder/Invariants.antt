@@ -1,11 +1,7 @@
 -- `region_map::addresses::find_holder`: the records from i on do not permit the address, so that the holder is one before them.
 use Rattle.region_map.specs.Map.{count, holder}
 use mathlib.Core.Path.{◌≡◌}
-use Prim.Native.Nat.{◌≤◌}
 use Rattle.region_map.proofs.addresses.find_holder.Given as goal
 
 abbrev pub invariant-loop-i : goal.invariant-loop-i
-invariant-loop-i l = (l.i ≤ count l.map) × (holder l.map (count l.map) l.address ≡ holder l.map l.i l.address)
-
-abbrev pub decreases-loop-i : goal.decreases-loop-i
-decreases-loop-i l = l.i
+invariant-loop-i l = holder l.map (count l.map) l.address ≡ holder l.map l.i l.address

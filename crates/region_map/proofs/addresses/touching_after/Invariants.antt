@@ -2,11 +2,8 @@
 use Rattle.region_map.specs.Map.{count}
 use Rattle.region_map.specs.Search.{touching_after}
 use mathlib.Core.Path.{◌≡◌}
-use Prim.Native.Nat.{◌≤◌, ◌-◌}
+use Prim.Native.Nat.{◌-◌}
 use Rattle.region_map.proofs.addresses.touching_after.Given as goal
 
 abbrev pub invariant-loop-j : goal.invariant-loop-j
-invariant-loop-j l = (l.j ≤ l.n) × (l.n ≡ count l.map) × (touching_after l.map (count l.map - l.i) l.i l.address ≡ touching_after l.map (l.n - l.j) l.j l.until)
-
-abbrev pub decreases-loop-j : goal.decreases-loop-j
-decreases-loop-j l = l.n - l.j
+invariant-loop-j l = touching_after l.map (count l.map - l.i) l.i l.address ≡ touching_after l.map (count l.map - l.j) l.j l.until
