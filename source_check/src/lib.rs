@@ -6,12 +6,12 @@
 //! `rt check --generated` prints of it, which has the types of locals that the
 //! source leaves out. Where the two readings of a function or of a declared type
 //! differ it fails. The functions of the library that may be called are listed,
-//! and not read.
+//! and read too: in the library's source, which the kit brings, and not in MIR.
 
 mod mir;
 mod source;
 
-use source::Source;
+use source::{Method, Source};
 use std::collections::{BTreeMap, BTreeSet};
 use std::env;
 use std::fmt;
@@ -94,35 +94,76 @@ pub const CALL_TYPES: [(&str, &str); 10] = [
 ];
 
 /// The types of the library that a test of addresses, and what it calls, may
-/// hold, over types that it may hold: a value or none.
-pub const TEST_LIBRARY_TYPES: [&str; 1] = ["core::option::Option"];
+/// hold, over types that it may hold, each with its cases: a value or none.
+pub const TEST_LIBRARY_TYPES: [(&str, &str); 1] = [("core::option::Option", "None, Some")];
 
 /// Those that the rest of judging and loading may hold besides: a value or a
 /// refusal, and the two that `?` makes of it.
-pub const CALL_LIBRARY_TYPES: [&str; 3] = [
-    "core::result::Result",
-    "core::result::ErrResidual",
-    "core::ops::ControlFlow",
+pub const CALL_LIBRARY_TYPES: [(&str, &str); 3] = [
+    ("core::result::Result", "Ok, Err"),
+    ("core::result::ErrResidual", "ErrResidual"),
+    ("core::ops::ControlFlow", "Continue, Break"),
 ];
 
+/// A function of the library that may be called, by the name that the MIR has.
+pub struct LibraryFunction {
+    pub name: &'static str,
+    /// What is written for a call of it.
+    pub written: &'static str,
+    /// Where it stands in the library's source: the file, and the head of the impl.
+    pub file: &'static str,
+    pub head: &'static str,
+}
+
 /// The functions of the library that a test of addresses, and what it calls,
-/// may call, each with what is written for it: the lower and the higher of two
-/// numbers.
-pub const TEST_LIBRARY_FUNCTIONS: [(&str, &str); 2] = [
-    ("core::int::u64::min", ".min"),
-    ("core::int::u64::max", ".max"),
+/// may call: the lower and the higher of two numbers. They may hold numbers and
+/// bools, and call none.
+pub const TEST_LIBRARY_FUNCTIONS: [LibraryFunction; 2] = [
+    LibraryFunction {
+        name: "core::int::u64::min",
+        written: ".min",
+        file: "core/src/int/u64.rt",
+        head: "impl u64",
+    },
+    LibraryFunction {
+        name: "core::int::u64::max",
+        written: ".max",
+        file: "core/src/int/u64.rt",
+        head: "impl u64",
+    },
 ];
 
 /// Those that the rest of judging and loading may call besides: the two that
 /// `?` stands for, and the conversion that it is given to call, which leaves a
-/// refusal as it is.
-pub const CALL_LIBRARY_FUNCTIONS: [(&str, &str); 3] = [
-    ("std::prelude::ResultTry::branch", "?"),
-    (
-        "std::prelude::ResultFromResidualErrResidual::from_residual",
-        "?",
-    ),
-    ("core::convert::AnyFrom::from", "?"),
+/// refusal as it is. They may hold values of the types that their impls are over
+/// besides, which their callers choose and hold, and the types of the library
+/// over these; and they may call the conversion.
+pub const CALL_LIBRARY_FUNCTIONS: [LibraryFunction; 3] = [
+    LibraryFunction {
+        name: "std::prelude::ResultTry::branch",
+        written: "?",
+        file: "core/src/result.rt",
+        head: "impl<T, E> Try for Result<T, E>",
+    },
+    LibraryFunction {
+        name: "std::prelude::ResultFromResidualErrResidual::from_residual",
+        written: "?",
+        file: "core/src/result.rt",
+        head: "impl<T, E, F: From<E>> FromResidual<ErrResidual<E>> for Result<T, F>",
+    },
+    LibraryFunction {
+        name: "core::convert::AnyFrom::from",
+        written: "?",
+        file: "core/src/convert/mod.rt",
+        head: "impl<T> From<T> for T",
+    },
+];
+
+/// What the body of a function of the library may have besides its values and
+/// their parts, numbers, calls, and the cases of the types that are listed: it
+/// may choose, by comparing values or by a case.
+const CHOICES: [&str; 11] = [
+    "if", "else", "match", "<", ">", "=", "{", "}", "(", ")", ",",
 ];
 
 /// A type, as far as the check tells types apart.
@@ -155,10 +196,12 @@ enum Type {
     Other(String),
 }
 
-/// The two readings of the crates, by the full names of their functions.
+/// The two readings of the crates, and the functions of the library that are
+/// listed and found, by the full names of the functions.
 pub struct Program {
     source: Source,
     mir: BTreeMap<String, mir::Function>,
+    library: BTreeMap<&'static str, Method>,
 }
 
 /// What the check shows where it finds no fault.
@@ -277,6 +320,22 @@ pub fn all_printed(root: &Path) -> BTreeMap<String, Printed> {
     })
 }
 
+/// The files of the library's source in which listed functions stand, by their
+/// paths in it. It is a folder beside the page that the kit names.
+pub fn library() -> BTreeMap<String, String> {
+    let run = Command::new("rt").arg("doc").output();
+    let run = run.expect("rt can be run");
+    assert!(run.status.success(), "rt doc names no page");
+    let page = String::from_utf8_lossy(&run.stdout).trim().to_string();
+    let folder = Path::new(&page).with_file_name("rattle");
+    let functions = TEST_LIBRARY_FUNCTIONS.iter().chain(&CALL_LIBRARY_FUNCTIONS);
+    let texts = functions.filter_map(|function| {
+        let text = fs::read_to_string(folder.join(function.file)).ok()?;
+        Some((function.file.to_string(), text))
+    });
+    texts.collect()
+}
+
 /// A name without that of its crate.
 fn within(name: &str) -> &str {
     name.split_once("::").map_or(name, |(_, rest)| rest)
@@ -308,11 +367,17 @@ impl Drop for Folder {
 }
 
 impl Program {
-    /// Reads the crates of a repository, with the MIR of each.
-    pub fn read(root: &Path, printed: &BTreeMap<String, Printed>) -> Program {
+    /// Reads the crates of a repository, with the MIR of each, and the listed
+    /// functions in the files of the library.
+    pub fn read(
+        root: &Path,
+        printed: &BTreeMap<String, Printed>,
+        library: &BTreeMap<String, String>,
+    ) -> Program {
         let mut program = Program {
             source: Source::default(),
             mir: BTreeMap::new(),
+            library: BTreeMap::new(),
         };
         for (name, printed) in printed {
             for (full, text) in &printed.functions {
@@ -322,11 +387,22 @@ impl Program {
             let folder = format!("crates/{name}/src");
             program.source.read_folder(root, &folder, name);
         }
+        for function in TEST_LIBRARY_FUNCTIONS.iter().chain(&CALL_LIBRARY_FUNCTIONS) {
+            let LibraryFunction {
+                name, file, head, ..
+            } = function;
+            let text = library.get(*file);
+            let method = text.and_then(|text| source::method(file, text, head, last(name)));
+            program.library.extend(method.map(|method| (*name, method)));
+        }
         program
     }
 
     /// The file and the line of a function.
     pub fn file_and_line(&self, name: &str) -> Option<String> {
+        if let Some(method) = self.library.get(name) {
+            return Some(format!("{}:{}", method.file, method.line));
+        }
         let function = self.source.functions.get(name)?;
         Some(format!("{}:{}", function.file, function.line))
     }
@@ -349,6 +425,12 @@ impl Program {
             if !calls.contains(*test) {
                 faults.report(test, "neither judging nor loading calls it");
             }
+        }
+        for function in &TEST_LIBRARY_FUNCTIONS {
+            self.check_library(function, true, &mut faults);
+        }
+        for function in &CALL_LIBRARY_FUNCTIONS {
+            self.check_library(function, false, &mut faults);
         }
         if !faults.0.is_empty() {
             return Err(faults.0);
@@ -388,7 +470,18 @@ impl Program {
         self.source.functions.contains_key(name) && self.mir.contains_key(name)
     }
 
+    /// What a function calls that is known. One of the library, of which there
+    /// is no MIR, may call each listed one that has the name of what it calls.
     fn callees(&self, name: &str) -> Vec<&str> {
+        if let Some(method) = self.library.get(name) {
+            let names = method
+                .calls
+                .iter()
+                .map(|call| last(call).trim_start_matches('.'));
+            let names: BTreeSet<&str> = names.collect();
+            let called = |callee: &&str| names.contains(last(callee));
+            return self.library.keys().copied().filter(called).collect();
+        }
         let calls = self.mir[name].calls.iter().map(String::as_str);
         calls.filter(|callee| self.knows(callee)).collect()
     }
@@ -511,7 +604,7 @@ impl Program {
             Type::Over(name, types) => {
                 let mut listed = listed(in_test, &TEST_LIBRARY_TYPES, &CALL_LIBRARY_TYPES);
                 let held = compiled.get(name);
-                listed.any(|listed_name| listed_name == name)
+                listed.any(|(listed_name, _)| listed_name == name)
                     && held.is_some_and(|held| held.iter().all(|ty| *ty == Type::Parameter))
                     && types.iter().all(|ty| self.allows(ty, in_test, compiled))
             }
@@ -528,6 +621,42 @@ impl Program {
             Some(held) => format!("{ty}, which holds {held}"),
             None => ty.to_string(),
         }
+    }
+
+    // ---- the library
+
+    /// A listed function of the library stands where the list says. What it is
+    /// given and answers is allowed, it holds nothing else, and it calls nothing
+    /// but what is listed, and not itself.
+    fn check_library(&self, function: &LibraryFunction, in_test: bool, faults: &mut Faults) {
+        let LibraryFunction {
+            name, file, head, ..
+        } = function;
+        let Some(method) = self.library.get(name) else {
+            let what = format!("there is no such function in {head} of {file}");
+            return faults.report(name, &what);
+        };
+        let mut all = vec![("the result".to_string(), &method.result)];
+        for (parameter, ty) in &method.parameters {
+            all.push((format!("the parameter {parameter}"), ty));
+        }
+        for (what, ty) in all {
+            if !allows_in_library(ty, &method.open, in_test) {
+                faults.report(name, &format!("{what} is {ty}"));
+            }
+        }
+        let words = method.words.iter().map(String::as_str);
+        let more = words.filter(|word| !CHOICES.contains(word) && !is_case(word, in_test));
+        let more: Vec<&str> = more.collect();
+        if !more.is_empty() {
+            faults.report(name, &format!("its body has {}", more.join(" ")));
+        }
+        for callee in &method.calls {
+            if !is_given(callee, &method.open, in_test) {
+                faults.report(name, &format!("the call of {callee} is not resolved"));
+            }
+        }
+        self.check_itself(name, faults);
     }
 }
 
@@ -556,8 +685,45 @@ fn listed<T>(
 /// What is written for a call of a function of the library, if that is listed.
 fn written_for(callee: &str, in_test: bool) -> Option<&'static str> {
     let mut listed = listed(in_test, &TEST_LIBRARY_FUNCTIONS, &CALL_LIBRARY_FUNCTIONS);
-    let found = listed.find(|(name, _)| *name == callee);
-    found.map(|(_, word)| *word)
+    let found = listed.find(|function| function.name == callee);
+    found.map(|function| function.written)
+}
+
+/// Whether a function of the library may hold a type: a number or a bool, and
+/// for the rest of judging and loading one that its impl is over, or a listed one
+/// over such. The MIR of its callers has their full names, and what the impl is
+/// over there.
+fn allows_in_library(ty: &Type, open: &[String], in_test: bool) -> bool {
+    match ty {
+        Type::Number(_) | Type::Bool => true,
+        Type::Named(name) => !in_test && open.contains(name),
+        Type::Over(name, types) => {
+            let mut listed = listed(in_test, &TEST_LIBRARY_TYPES, &CALL_LIBRARY_TYPES);
+            !in_test
+                && listed.any(|(full, _)| last(full) == name)
+                && types.iter().all(|ty| allows_in_library(ty, open, in_test))
+        }
+        _ => false,
+    }
+}
+
+/// Whether a word is a case of a listed type of the library, alone or after the
+/// type's name.
+fn is_case(word: &str, in_test: bool) -> bool {
+    let mut listed = listed(in_test, &TEST_LIBRARY_TYPES, &CALL_LIBRARY_TYPES);
+    listed.any(|(full, cases)| {
+        let after_type = word.strip_prefix(&format!("{}::", last(full)));
+        let case = after_type.unwrap_or(word);
+        cases.split(", ").any(|listed_case| listed_case == case)
+    })
+}
+
+/// Whether a function of the library calls a listed one of a type that its impl
+/// is over, as `F::from`. The MIR of its callers has which function that is.
+fn is_given(callee: &str, open: &[String], in_test: bool) -> bool {
+    let mut listed = listed(in_test, &TEST_LIBRARY_FUNCTIONS, &CALL_LIBRARY_FUNCTIONS);
+    let (ty, name) = callee.split_once("::").unwrap_or(("", callee));
+    open.iter().any(|open| open == ty) && listed.any(|function| last(function.name) == name)
 }
 
 /// A name without its path.

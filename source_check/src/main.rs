@@ -2,15 +2,15 @@
 //! shows.
 
 use source_check::{
-    all_printed, Program, Shown, CALLS, CALL_LIBRARY_FUNCTIONS, CALL_LIBRARY_TYPES, CALL_TYPES,
-    TESTS, TEST_LIBRARY_FUNCTIONS, TEST_LIBRARY_TYPES, TEST_TYPES,
+    all_printed, library, LibraryFunction, Program, Shown, CALLS, CALL_LIBRARY_FUNCTIONS,
+    CALL_LIBRARY_TYPES, CALL_TYPES, TESTS, TEST_LIBRARY_FUNCTIONS, TEST_LIBRARY_TYPES, TEST_TYPES,
 };
 use std::path::Path;
 use std::process::ExitCode;
 
 fn main() -> ExitCode {
     let root = Path::new(env!("CARGO_MANIFEST_DIR")).join("..");
-    let program = Program::read(&root, &all_printed(&root));
+    let program = Program::read(&root, &all_printed(&root), &library());
     match program.check() {
         Ok(shown) => {
             print(&program, &shown);
@@ -33,10 +33,16 @@ fn located(program: &Program, name: &str) -> String {
     }
 }
 
-/// The names of the library's functions in a list, after one another.
+/// The names of the library's types in a list, after one another.
 fn names(listed: &[(&str, &str)]) -> String {
     let names: Vec<&str> = listed.iter().map(|(name, _)| *name).collect();
     names.join(", ")
+}
+
+fn print_functions(program: &Program, listed: &[LibraryFunction]) {
+    for function in listed {
+        println!("  {}", located(program, function.name));
+    }
 }
 
 fn print(program: &Program, shown: &Shown) {
@@ -55,9 +61,10 @@ fn print(program: &Program, shown: &Shown) {
     for (name, held) in TEST_TYPES {
         println!("  {name}, which holds {held}");
     }
-    println!("  {} over some of these", TEST_LIBRARY_TYPES.join(", "));
+    println!("  {} over some of these", names(&TEST_LIBRARY_TYPES));
     println!("None of them reaches itself. Of the library they call none but");
-    println!("  {}", names(&TEST_LIBRARY_FUNCTIONS));
+    print_functions(program, &TEST_LIBRARY_FUNCTIONS);
+    println!("of which the same holds.");
     let more = shown.calls.difference(&shown.tests).count();
     println!(
         "The same holds of {more} more functions that {} reach, with",
@@ -69,9 +76,10 @@ fn print(program: &Program, shown: &Shown) {
     for (name, held) in CALL_TYPES {
         println!("  {name}, which holds {held}");
     }
-    println!("  {} over some of these", CALL_LIBRARY_TYPES.join(", "));
+    println!("  {} over some of these", names(&CALL_LIBRARY_TYPES));
     println!("and calls of the library's");
-    println!("  {}", names(&CALL_LIBRARY_FUNCTIONS));
+    print_functions(program, &CALL_LIBRARY_FUNCTIONS);
+    println!("of which the same holds, with the types that they are called for.");
     println!(
         "The longest chain of calls of the address test has {} functions: {}.",
         shown.chain.len(),

@@ -1,9 +1,12 @@
 //! Reads Rattle source: the functions with their parameters, results and
-//! calls, and what the declared types hold. Contracts are passed over.
+//! calls, and what the declared types hold. Contracts are passed over. Of a file
+//! of the library it reads a method that is asked for, with its body.
 
 use crate::Type;
 use std::collections::{BTreeMap, BTreeSet};
 use std::fs;
+use std::iter::successors;
+use std::ops::Range;
 use std::path::Path;
 
 /// A function as it is written.
@@ -16,6 +19,21 @@ pub struct Function {
     pub result: Type,
     /// The names that are called, without their paths.
     pub calls: BTreeSet<String>,
+}
+
+/// A method of an `impl` as it is written.
+pub struct Method {
+    pub file: String,
+    pub line: usize,
+    /// The types that its impl is over.
+    pub open: Vec<String>,
+    pub parameters: Vec<(String, Type)>,
+    pub result: Type,
+    /// What is called, with its path, or with a dot where it is called of a value.
+    pub calls: BTreeSet<String>,
+    /// The other words and signs of its body, but for numbers, its values and
+    /// their parts.
+    pub words: Vec<String>,
 }
 
 /// What the files that were read declare, by full name.
@@ -73,7 +91,7 @@ impl Source {
                 "mod" => self.read_module(module, file, tokens, at),
                 "struct" | "enum" => self.read_type(module, tokens, at),
                 "fn" => self.read_function(module, file, tokens, at),
-                // A call of a method is not resolved, so methods are not read.
+                // A call of a crate's own method is not resolved, so these are not read.
                 "impl" => past_bracket(tokens, next(tokens, at, &["{"])),
                 _ => at + 1,
             };
@@ -118,31 +136,36 @@ impl Source {
         end
     }
 
-    /// `fn name(parameters) -> result requires { .. } ensures { .. } { body }`,
-    /// or with a semicolon for the body.
     fn read_function(&mut self, module: &str, file: &str, tokens: &[Token], at: usize) -> usize {
-        let open = next(tokens, at, &["("]);
-        let close = past_bracket(tokens, open);
-        let contract = next(tokens, close, &["requires", "ensures", "{", ";"]);
-        let mut body = contract;
-        while !["{", ";"].contains(&tokens[body].text.as_str()) {
-            body = past_bracket(tokens, next(tokens, body, &["{"]));
-        }
-        let end = past_bracket(tokens, body);
-        let parameters = between_commas(inside(tokens, open, close)).into_iter();
-        let result = joined(&tokens[close..contract]);
-        let function = Function {
-            file: file.to_string(),
-            line: tokens[at].line,
-            has_body: tokens[body].text == "{",
-            parameters: parameters.map(parameter).collect(),
-            result: type_of(result.trim_start_matches("->")),
-            calls: calls(&tokens[body..end]),
-        };
+        let (function, body) = function(file, tokens, at);
         self.functions
             .insert(full_name(module, tokens, at), function);
-        end
+        body.end
     }
+}
+
+/// `fn name(parameters) -> result requires { .. } ensures { .. } { body }`, or
+/// with a semicolon for the body, and where the body stands.
+fn function(file: &str, tokens: &[Token], at: usize) -> (Function, Range<usize>) {
+    let open = next(tokens, at, &["("]);
+    let close = past_bracket(tokens, open);
+    let contract = next(tokens, close, &["requires", "ensures", "{", ";"]);
+    let mut body = contract;
+    while !["{", ";"].contains(&tokens[body].text.as_str()) {
+        body = past_bracket(tokens, next(tokens, body, &["{"]));
+    }
+    let end = past_bracket(tokens, body);
+    let parameters = between_commas(inside(tokens, open, close)).into_iter();
+    let result = joined(&tokens[close..contract]);
+    let function = Function {
+        file: file.to_string(),
+        line: tokens[at].line,
+        has_body: tokens[body].text == "{",
+        parameters: parameters.map(parameter).collect(),
+        result: type_of(result.trim_start_matches("->")),
+        calls: calls(&tokens[body..end]),
+    };
+    (function, body..end)
 }
 
 /// The name that stands after the first word of a declaration.
@@ -158,7 +181,11 @@ fn is_ghost(field: &[Token]) -> bool {
     words.next() == Some("ghost") && words.next() != Some(":")
 }
 
+/// `name: type`. A receiver, as `self`, is its own type here.
 fn parameter(tokens: &[Token]) -> (String, Type) {
+    if let Some(name) = tokens.last().filter(|name| name.text == "self") {
+        return (name.text.clone(), type_of(&joined(tokens)));
+    }
     let colon = next(tokens, 0, &[":"]);
     let ty = type_of(&joined(&tokens[colon + 1..]));
     (tokens[colon - 1].text.clone(), ty)
@@ -169,15 +196,13 @@ fn parameter(tokens: &[Token]) -> (String, Type) {
 /// on are no calls; another method keeps its dot, so that no function has its
 /// name. `?` stands for calls too.
 fn calls(body: &[Token]) -> BTreeSet<String> {
-    const KEYWORDS: [&str; 5] = ["if", "in", "match", "return", "while"];
     let mut calls = BTreeSet::new();
     for three in body.windows(3) {
         let [before, name, after] = [&three[0].text, &three[1].text, &three[2].text];
         if name == "?" {
             calls.insert(name.clone());
         }
-        let lower = name.starts_with(|c: char| c.is_lowercase() || c == '_');
-        if lower && after == "(" && !KEYWORDS.contains(&name.as_str()) {
+        if is_lower(name) && after == "(" {
             if before != "." {
                 calls.insert(name.clone());
             } else if !["len", "rev"].contains(&name.as_str()) {
@@ -186,6 +211,109 @@ fn calls(body: &[Token]) -> BTreeSet<String> {
         }
     }
     calls
+}
+
+/// Whether a word is the name of a function or of a value.
+fn is_lower(word: &str) -> bool {
+    const KEYWORDS: [&str; 5] = ["if", "in", "match", "return", "while"];
+    word.starts_with(|c: char| c.is_lowercase() || c == '_') && !KEYWORDS.contains(&word)
+}
+
+// ---- methods
+
+/// A method by its name, in an impl by its head, as `impl<T> From<T> for T`.
+pub fn method(file: &str, text: &str, head: &str, name: &str) -> Option<Method> {
+    let all = tokens(text);
+    let opened = tokens(&format!("{head} {{"));
+    let named = tokens(&format!("fn {name}"));
+    let impls = places(&all).filter(|at| begins(&all[*at..], &opened));
+    let mut inner = impls.map(|at| {
+        let open = at + opened.len() - 1;
+        inside(&all, open, past_bracket(&all, open))
+    });
+    inner.find_map(|inner| {
+        let at = places(inner).find(|at| begins(&inner[*at..], &named))?;
+        Some(read_method(file, &tokens(head), inner, at))
+    })
+}
+
+fn read_method(file: &str, head: &[Token], tokens: &[Token], at: usize) -> Method {
+    let (function, body) = function(file, tokens, at);
+    let (open, implemented) = open_types(head);
+    let traits_end = implemented.iter().position(|token| token.text == "for");
+    let own = joined(&implemented[traits_end.map_or(0, |at| at + 1)..]);
+    let parameters = function.parameters.into_iter();
+    let parameters = parameters.map(|(name, ty)| match ty {
+        Type::Named(text) if text == "self" => (name, type_of(&own)),
+        ty => (name, ty),
+    });
+    let mut method = Method {
+        file: function.file,
+        line: function.line,
+        open,
+        parameters: parameters.collect(),
+        result: function.result,
+        calls: BTreeSet::new(),
+        words: Vec::new(),
+    };
+    method.read_body(&words(&tokens[body]));
+    method
+}
+
+impl Method {
+    /// The values of a body are the parameters, and what a case holds that is
+    /// matched: `Ok(x) =>`. Before a parenthesis stands a function or a case.
+    fn read_body(&mut self, words: &[String]) {
+        let matched = words.windows(6).filter(|six| {
+            let around = [1, 3, 4, 5].map(|at| six[at].as_str());
+            around == ["(", ")", "=", ">"] && is_lower(&six[2])
+        });
+        let mut values: Vec<&str> = matched.map(|six| six[2].as_str()).collect();
+        values.extend(self.parameters.iter().map(|(name, _)| name.as_str()));
+        for (at, word) in words.iter().enumerate() {
+            let name = word.rsplit([':', '.']).next().unwrap_or(word);
+            let called = words.get(at + 1).is_some_and(|after| after == "(");
+            let part = word.starts_with('.') && name.starts_with(char::is_alphanumeric);
+            if called && is_lower(name) {
+                self.calls.insert(word.clone());
+            } else if called && !name.starts_with(char::is_uppercase) {
+                self.words.push(format!("{word} ("));
+            } else if !part && !word.starts_with(char::is_numeric) && !values.contains(&&**word) {
+                self.words.push(word.clone());
+            }
+        }
+    }
+}
+
+/// The types that an impl is over, `impl<T, F: From<E>>`, and the rest of its head.
+fn open_types(head: &[Token]) -> (Vec<String>, &[Token]) {
+    let (mut depth, mut open) = (0, Vec::new());
+    for (at, token) in head.iter().enumerate().skip(1) {
+        match token.text.as_str() {
+            "<" => depth += 1,
+            ">" if depth == 1 => return (open, &head[at + 1..]),
+            ">" => depth -= 1,
+            _ if depth == 0 => break,
+            name if depth == 1 && ["<", ","].contains(&head[at - 1].text.as_str()) => {
+                open.push(name.to_string());
+            }
+            _ => {}
+        }
+    }
+    (open, &head[1..])
+}
+
+/// The words and signs of a body. A path is one word, and so is a part or a
+/// method of a value, with its dot.
+fn words(body: &[Token]) -> Vec<String> {
+    let mut words: Vec<String> = Vec::new();
+    for Token { text, .. } in body {
+        match words.last_mut() {
+            Some(word) if text == "::" || word.ends_with("::") || word == "." => *word += text,
+            _ => words.push(text.clone()),
+        }
+    }
+    words
 }
 
 // ---- types
@@ -263,6 +391,18 @@ fn next(tokens: &[Token], mut at: usize, texts: &[&str]) -> usize {
         assert!(at < tokens.len(), "the source ends before {texts:?}");
     }
     at
+}
+
+/// The places that stand in no bracket.
+fn places(tokens: &[Token]) -> impl Iterator<Item = usize> + '_ {
+    let after = |at: &usize| (*at < tokens.len()).then(|| past_bracket(tokens, *at));
+    successors(Some(0), after).take_while(|at| *at < tokens.len())
+}
+
+/// Whether some tokens begin with others.
+fn begins(tokens: &[Token], others: &[Token]) -> bool {
+    let same = |(token, other): (&Token, &Token)| token.text == other.text;
+    others.len() <= tokens.len() && tokens.iter().zip(others).all(same)
 }
 
 /// Past a token, and past its bracket where it opens one.

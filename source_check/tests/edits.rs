@@ -1,12 +1,13 @@
 //! The check finds no fault in the repository as it stands, and in a copy with
-//! one of the edits of `edits/` exactly the faults that the edit names.
+//! one of the edits of `edits/` exactly the faults that the edit names. Copies of
+//! the library's source are changed in the tests themselves.
 //!
 //! An edit is written as those under `must-fail/`, with the crate that it
 //! changes, with any number of lines `new:` after an `old:`, with a line
 //! `folder:` for a folder that it adds, and with a line `report:` for each
 //! fault. One that is allowed has none.
 
-use source_check::{all_printed, printed, Folder, Printed, Program};
+use source_check::{all_printed, library, printed, Folder, Printed, Program};
 use std::collections::BTreeMap;
 use std::fs;
 use std::path::{Path, PathBuf};
@@ -14,7 +15,7 @@ use std::process::Command;
 use std::sync::OnceLock;
 use std::thread;
 
-const REPORTED: [&str; 28] = [
+const REPORTED: [&str; 29] = [
     "array_local",
     "array_constant",
     "array_passed_on",
@@ -24,6 +25,7 @@ const REPORTED: [&str; 28] = [
     "array_in_an_option",
     "record_by_value",
     "record_in_an_allowed_type",
+    "record_in_a_listed_enum",
     "record_in_another_crate",
     "record_in_a_result",
     "type_in_a_comment",
@@ -78,6 +80,17 @@ fn root() -> PathBuf {
 fn as_it_stands() -> &'static BTreeMap<String, Printed> {
     static PRINTED: OnceLock<BTreeMap<String, Printed>> = OnceLock::new();
     PRINTED.get_or_init(|| all_printed(&root()))
+}
+
+/// The library's source as it stands.
+fn library_as_it_stands() -> &'static BTreeMap<String, String> {
+    static LIBRARY: OnceLock<BTreeMap<String, String>> = OnceLock::new();
+    LIBRARY.get_or_init(library)
+}
+
+/// The repository with the MIR as it stands, and with a source of the library.
+fn with_library(library: &BTreeMap<String, String>) -> Program {
+    Program::read(&root(), as_it_stands(), library)
 }
 
 fn edit(label: &'static str) -> Edit {
@@ -172,10 +185,11 @@ fn answer(edit: &Edit) -> Answer {
     let mut edited = as_it_stands().clone();
     let own = printed(folder.path(), &edit.crate_name);
     edited.insert(edit.crate_name.clone(), own);
+    let library = library_as_it_stands();
     Answer {
-        of_copy: reports(&Program::read(folder.path(), &edited)),
-        of_source: reports(&Program::read(folder.path(), as_it_stands())),
-        of_mir: reports(&Program::read(&root(), &edited)),
+        of_copy: reports(&Program::read(folder.path(), &edited, library)),
+        of_source: reports(&Program::read(folder.path(), as_it_stands(), library)),
+        of_mir: reports(&Program::read(&root(), &edited, library)),
     }
 }
 
@@ -207,8 +221,7 @@ fn answers() -> &'static BTreeMap<&'static str, Answer> {
 
 #[test]
 fn no_fault_as_it_stands() {
-    let program = Program::read(&root(), as_it_stands());
-    assert_eq!(reports(&program), [""; 0]);
+    assert_eq!(reports(&with_library(library_as_it_stands())), [""; 0]);
 }
 
 #[test]
@@ -250,4 +263,155 @@ fn another_mir() {
     let held = "loader::judging::Stretch, which holds from: u64, until: u64, clear: u64";
     let report = format!("loader::judging::lengthen: the result is {held}");
     assert!(reports_of("type_in_a_comment").contains(&report));
+}
+
+// ---- the library
+
+const NUMBERS: &str = "core/src/int/u64.rt";
+const RESULTS: &str = "core/src/result.rt";
+const CONVERSIONS: &str = "core/src/convert/mod.rt";
+
+/// The library with another text for one that stands in a file once.
+fn exchanged(file: &str, old: &str, new: &str) -> BTreeMap<String, String> {
+    let mut library = library_as_it_stands().clone();
+    let text = library.get_mut(file).expect("the library has the file");
+    assert_eq!(text.matches(old).count(), 1, "{file}: {old}");
+    *text = text.replace(old, new);
+    library
+}
+
+/// The library with more at the beginning of a function's body, which opens at
+/// the first end of a line with a bracket.
+fn begun(file: &str, function: &str, more: &str) -> BTreeMap<String, String> {
+    let text = &library_as_it_stands()[file];
+    let (_, after) = text.split_once(function).expect("the function is there");
+    let (between, _) = after.split_once("{\n").expect("it has a body");
+    let head = format!("{function}{between}{{\n");
+    exchanged(file, &head, &format!("{head}{more}\n"))
+}
+
+/// The library without a file.
+fn without(file: &str) -> BTreeMap<String, String> {
+    let mut library = library_as_it_stands().clone();
+    library.remove(file).expect("the library has the file");
+    library
+}
+
+/// What is reported where the library has another source.
+fn answers_of(library: &BTreeMap<String, String>) -> Vec<String> {
+    reports(&with_library(library))
+}
+
+#[test]
+fn a_function_of_the_library_is_not_there() {
+    let [min, max] = ["min", "max"].map(|name| {
+        format!("core::int::u64::{name}: there is no such function in impl u64 of {NUMBERS}")
+    });
+    let of_another_name = exchanged(NUMBERS, "fn min(", "fn least(");
+    assert_eq!(answers_of(&of_another_name), std::slice::from_ref(&min));
+    let of_another_impl = exchanged(NUMBERS, "impl u64 {", "impl u32 {");
+    assert_eq!(answers_of(&of_another_impl), [min, max]);
+    let from = "there is no such function in impl<T> From<T> for T of core/src/convert/mod.rt";
+    assert_eq!(
+        answers_of(&without(CONVERSIONS)),
+        [format!("core::convert::AnyFrom::from: {from}")],
+    );
+}
+
+#[test]
+fn a_function_of_the_library_holds_more() {
+    let array = begun(NUMBERS, "fn min(", "let both = [self, other];");
+    assert_eq!(
+        answers_of(&array),
+        ["core::int::u64::min: its body has let both [ ] ;"],
+    );
+    let cases = begun(NUMBERS, "fn max(", "if Err(self) < Ok(other) { self } else");
+    assert_eq!(
+        answers_of(&cases),
+        ["core::int::u64::max: its body has Err Ok"],
+    );
+    let branch = "std::prelude::ResultTry::branch";
+    let kept = exchanged(RESULTS, "ErrResidual(e)", "Kept(e)");
+    assert_eq!(answers_of(&kept), [format!("{branch}: its body has Kept")]);
+    let pair = exchanged(RESULTS, "ErrResidual(e)", "ErrResidual((e, e))");
+    assert_eq!(answers_of(&pair), [format!("{branch}: its body has ( (")]);
+}
+
+#[test]
+fn a_function_of_the_library_has_another_type() {
+    let answer = exchanged(
+        NUMBERS,
+        "min(self, other: u64) -> u64",
+        "min(self, other: u64) -> Option<u64>",
+    );
+    assert_eq!(
+        answers_of(&answer),
+        ["core::int::u64::min: the result is Option over a number of 64 bits"],
+    );
+    let lent = exchanged(RESULTS, "fn branch(self)", "fn branch(&self)");
+    assert_eq!(
+        answers_of(&lent),
+        ["std::prelude::ResultTry::branch: the parameter self is of another type: &self"],
+    );
+    let function = "std::prelude::ResultFromResidualErrResidual::from_residual";
+    let old = "(residual: ErrResidual<E>)";
+    let array = exchanged(RESULTS, old, "(residual: [E; 2])");
+    let what = "the parameter residual is of another type: [E; 2]";
+    assert_eq!(answers_of(&array), [format!("{function}: {what}")]);
+    let kept = exchanged(RESULTS, old, "(residual: ErrResidual<Kept>)");
+    let what = "the parameter residual is ErrResidual over Kept";
+    assert_eq!(answers_of(&kept), [format!("{function}: {what}")]);
+}
+
+#[test]
+fn a_function_of_the_library_calls_another() {
+    let lower = begun(
+        NUMBERS,
+        "fn min(",
+        "if self < lower(self, other) { self } else",
+    );
+    assert_eq!(
+        answers_of(&lower),
+        ["core::int::u64::min: the call of lower is not resolved"],
+    );
+    let kept = exchanged(RESULTS, "F::from(", "Kept::from(");
+    let function = "std::prelude::ResultFromResidualErrResidual::from_residual";
+    assert_eq!(
+        answers_of(&kept),
+        [format!(
+            "{function}: the call of Kept::from is not resolved"
+        )],
+    );
+}
+
+/// A call of a method is not resolved, and may be of the function itself.
+#[test]
+fn a_function_of_the_library_calls_itself() {
+    let min = "core::int::u64::min";
+    let itself = begun(
+        NUMBERS,
+        "fn min(",
+        "if self < self.min(other) { self } else",
+    );
+    assert_eq!(
+        answers_of(&itself),
+        [
+            format!("{min}: the call of .min is not resolved"),
+            format!("{min}: reaches itself: {min}, {min}"),
+        ],
+    );
+    let ring = exchanged(
+        CONVERSIONS,
+        "fn from(value: T) -> T {",
+        "fn from(value: T) -> T { T::from_residual(value) } fn same(value: T) -> T {",
+    );
+    let function = "std::prelude::ResultFromResidualErrResidual::from_residual";
+    let from = "core::convert::AnyFrom::from";
+    assert_eq!(
+        answers_of(&ring),
+        [
+            format!("{function}: reaches itself: {function}, {from}, {function}"),
+            format!("{from}: reaches itself: {from}, {function}, {from}"),
+        ],
+    );
 }

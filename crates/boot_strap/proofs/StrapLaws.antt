@@ -1,7 +1,7 @@
 -- Laws of the strap value: its bits, its numbers and the comparison.
 use Prim.Native.Nat.{ℕ, zero, suc, ◌%◌, ◌<◌}
 use mathlib.Core.Path.{◌≡◌, refl, sym, ap, ◌∙◌}
-use mathlib.Core.Bool.{Bool, true, false}
+use mathlib.Core.Bool.{Bool, true, false, ◌&&◌, beq, and_assoc, and-true}
 use mathlib.Core.List.{List, [], ◌∷◌}
 use mathlib.Core.Logic.{◌↔◌, by_cases}
 use native.Mathlib.Decide.{ℕ_discrete}
@@ -65,7 +65,7 @@ with_numbers manner v r e = ap answer_numbers e ∙ numbers_are manner v
 -- ---- a strap from its numbers
 
 -- the strap of a kind with these fields
-unfoldable strap_from : ℕ → List ℕ → Strap
+unfoldable pub strap_from : ℕ → List ℕ → Strap
 strap_from kind f =
     if (eqb kind 0) (Sleep (get_or f 0 0) (eqb (get_or f 1 0) 1) (get_or f 2 0))
     (if (eqb kind 1) (Emif16 (get_or f 0 0) (eqb (get_or f 1 0) 1) (get_or f 2 0))
@@ -145,6 +145,28 @@ same_iff s t = (
   λ e. rw (e, eqb_same (kind_of t)) (same_list_lem (fields_of t)),
 )
 
+-- a strap of kind k is made of its fields
+pub of_kind : (t : Strap) (k : ℕ) → kind_of t ≡ k → t ≡ strap_from k (fields_of t)
+of_kind t k e = sym (strap_back t) ∙ ap (λ (n : ℕ). strap_from n (fields_of t)) e
+
+-- a strap of another kind is not the same
+pub other_kind : (s t : Strap) → (kind_of s ≡ kind_of t → ⊥) → false ≡ same_strap s t
+unfolding same_strap
+other_kind s t d = rw (ne_eqb _ _ d)
+
+-- equal Bools are equal as numbers
+pub byte_beq : (a b : Bool) → eqb (bool_byte a) (bool_byte b) ≡ beq a b
+byte_beq true true = refl
+byte_beq true false = refl
+byte_beq false true = refl
+byte_beq false false = refl
+
+-- the six fields of two SPI straps
+pub spi_same : (m n : ℕ) (f g w x : Bool) (c d t u r s : ℕ)
+    → (eqb m n && beq f g && beq w x && eqb c d && eqb t u && eqb r s) ≡ same_strap (Spi m f w c t r) (Spi n g x d u s)
+unfolding same_strap kind_of fields_of same_list
+spi_same m n f g w x c d t u r s = simp (and_assoc, and-true, byte_beq)
+
 -- what the derived `==` answers of two straps
 abbrev pub equal : Strap → Strap → Bool
 equal = (strap_eq.ghosts).eq
@@ -162,9 +184,13 @@ equal_same s t =
     (λ e. (same_iff s t).1 (equal_so s t e))
     (λ e. rw ((same_iff s t).0 e) (equal_self t))
 
--- of two straps the answer is that of `==`
+-- of two straps the answer is whether they are the same
+pub same_told : (a b : Result Strap Refusal) (s t : Strap) (c : Bool)
+    → Ok s ≡ a → Ok t ≡ b → c ≡ same_strap s t → same_answer_of (Ok c) ≡ same_of a b
+unfolding same_of
+same_told a b s t c first second e = ap (λ (x : Bool). same_answer_of (Ok x)) e ∙ (λ i. same_of (first i) (second i))
+
+-- and so it is that of `==`
 pub same_decoded : (a b : Result Strap Refusal) (s t : Strap) (c : Bool)
     → Ok s ≡ a → Ok t ≡ b → c ≡ equal s t → same_answer_of (Ok c) ≡ same_of a b
-unfolding same_of
-same_decoded a b s t c first second e =
-    ap (λ (x : Bool). same_answer_of (Ok x)) (e ∙ equal_same s t) ∙ (λ i. same_of (first i) (second i))
+same_decoded a b s t c first second e = same_told a b s t c first second (e ∙ equal_same s t)

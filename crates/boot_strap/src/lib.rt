@@ -3,7 +3,7 @@
 
 ghost use Rattle.std.specs.Prelude.{◌≡◌, [], ◌∷◌};
 ghost use Rattle.boot_strap.specs.Strap.{strap_of, is_reserved, decode_as, numbers_as, decode_short, numbers_short};
-ghost use Rattle.boot_strap.specs.Strap.{kind_of, fields_of, answer_numbers, nine, same_answer, same_answer_of, label_answer, label_answer_of};
+ghost use Rattle.boot_strap.specs.Strap.{kind_of, fields_of, answer_numbers, nine, same_strap, same_answer, same_answer_of, label_answer, label_answer_of};
 
 use words::Refusal;
 
@@ -241,6 +241,14 @@ fn strap_numbers(strap: Strap) -> [u64; 9]
     }
 }
 
+// A refusal of any number and place in nine numbers.
+#[tactic(auto, unfolding(crate::specs::Strap::nine))]
+pub fn refused_numbers(number: u32, place: usize) -> [u64; 9]
+    ensures { result ≡ nine (number ∷ place ∷ []) }
+{
+    [number as u64, place as u64, 0, 0, 0, 0, 0, 0, 0]
+}
+
 // An answer in nine numbers: number, place, kind and fields, zero after.
 #[tactic(auto, using(crate::proofs::StrapLaws::nine_refused), unfolding(crate::specs::Strap::answer_numbers, crate::specs::Strap::nine))]
 pub fn numbers(answer: Result<Strap, Refusal>) -> [u64; 9]
@@ -248,28 +256,138 @@ pub fn numbers(answer: Result<Strap, Refusal>) -> [u64; 9]
 {
     match answer {
         Ok(strap) => strap_numbers(strap),
-        Err(refusal) => [
-            refusal.number() as u64,
-            refusal.place() as u64,
-            refusal.address() as u64,
-            0,
-            0,
-            0,
-            0,
-            0,
-            0,
-        ],
+        Err(refusal) => {
+            let mut told = refused_numbers(refusal.number(), refusal.place());
+            told[2] = refusal.address() as u64;
+            told
+        }
     }
 }
 
 // ---- the comparison and the board label, in the lenient manner
+
+// Whether two straps have one kind and equal fields.
+fn same_strap(first: Strap, second: Strap) -> bool
+    ensures { result ≡ same_strap first second }
+{
+    match first {
+        Strap::Sleep { sr, wait, clock } => {
+            let Strap::Sleep {
+                sr: s,
+                wait: w,
+                clock: c,
+            } = second
+            else {
+                return false;
+            };
+            (sr == s) & (wait == w) & (clock == c)
+        }
+        Strap::Emif16 { sr, wait, clock } => {
+            let Strap::Emif16 {
+                sr: s,
+                wait: w,
+                clock: c,
+            } = second
+            else {
+                return false;
+            };
+            (sr == s) & (wait == w) & (clock == c)
+        }
+        Strap::Link {
+            device,
+            number,
+            clock,
+        } => {
+            let Strap::Link {
+                device: d,
+                number: n,
+                clock: c,
+            } = second
+            else {
+                return false;
+            };
+            (device == d) & (number == n) & (clock == c)
+        }
+        Strap::Ethernet {
+            device,
+            multiplier,
+            connection,
+            id,
+            clock,
+        } => {
+            let Strap::Ethernet {
+                device: d,
+                multiplier: m,
+                connection: n,
+                id: i,
+                clock: c,
+            } = second
+            else {
+                return false;
+            };
+            (device == d) & (multiplier == m) & (connection == n) & (id == i) & (clock == c)
+        }
+        Strap::Pcie { bar, sr, clock } => {
+            let Strap::Pcie {
+                bar: b,
+                sr: s,
+                clock: c,
+            } = second
+            else {
+                return false;
+            };
+            (bar == b) & (sr == s) & (clock == c)
+        }
+        Strap::I2cMaster { number } => {
+            let Strap::I2cMaster { number: n } = second else {
+                return false;
+            };
+            number == n
+        }
+        Strap::I2cPassive { address } => {
+            let Strap::I2cPassive { address: a } = second else {
+                return false;
+            };
+            address == a
+        }
+        Strap::Spi {
+            mode,
+            five_pin,
+            wide_address,
+            chip_select,
+            table,
+            sr,
+        } => {
+            let Strap::Spi {
+                mode: m,
+                five_pin: f,
+                wide_address: w,
+                chip_select: c,
+                table: t,
+                sr: s,
+            } = second
+            else {
+                return false;
+            };
+            (mode == m)
+                & (five_pin == f)
+                & (wide_address == w)
+                & (chip_select == c)
+                & (table == t)
+                & (sr == s)
+        }
+    }
+}
 
 // Whether two strap values, decoded in the lenient manner, have one kind and equal fields. The first value's refusal comes before the second's.
 #[tactic(auto, unfolding(crate::specs::Strap::same_answer, crate::specs::Strap::same_of))]
 pub fn same(first: u32, second: u32) -> Result<bool, Refusal>
     ensures { same_answer_of result ≡ same_answer first second }
 {
-    Ok(decode_as(first, Manner::Lenient)? == decode_as(second, Manner::Lenient)?)
+    Ok(same_strap(
+        decode_as(first, Manner::Lenient)?,
+        decode_as(second, Manner::Lenient)?,
+    ))
 }
 
 // The board label's number of a value, decoded in the lenient manner: the kind's place in the table of kinds.

@@ -71,7 +71,9 @@ pub fn step_at(table: &[u8], order: ByteOrder, at: usize) -> Result<Option<Secti
     if room < 4 {
         return cut;
     }
-    let size = size_at(table, order, at);
+    // Widened before it is compared: else the compiled walk widens it once more on the way to the next section.
+    let word = size_at(table, order, at);
+    let size = word as usize;
     if size == 0 {
         if room == 4 {
             return Ok(None);
@@ -83,18 +85,18 @@ pub fn step_at(table: &[u8], order: ByteOrder, at: usize) -> Result<Option<Secti
         return cut;
     }
     let start = at + 8;
-    let padded = padded(size);
+    let padded = padded(word);
     if table.len() - start < padded {
         return cut;
     }
     let address = address_at(table, order, at);
-    if is_past_top(address, size) {
+    if is_past_top(address, word) {
         return Err(Refusal::PastTop { place: at });
     }
     let next = start + padded;
     Ok(Some(Section {
         address,
-        size: size as usize,
+        size,
         start,
         next,
     }))
@@ -105,16 +107,17 @@ pub fn whole_step(table: &[u8], order: ByteOrder, at: usize) -> Option<Section>
     requires { (read_on order table.now at).fault ≡ 0 }
     ensures { step_of (Ok result) ≡ step_at order table.now at }
 {
-    let size = size_at(table, order, at);
+    let word = size_at(table, order, at);
+    let size = word as usize;
     if size == 0 {
         return None;
     }
     let start = at + 8;
     let address = address_at(table, order, at);
-    let next = start + padded(size);
+    let next = start + padded(word);
     Some(Section {
         address,
-        size: size as usize,
+        size,
         start,
         next,
     })

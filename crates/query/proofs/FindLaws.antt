@@ -3,7 +3,7 @@ use Prim.Native.Nat.{ℕ, ◌+◌, ◌-◌, ◌*◌, ◌≤◌, ◌<◌}
 use mathlib.Core.Path.{◌≡◌, refl, sym, ap, ◌∙◌}
 use mathlib.Core.Logic.{by_cases}
 use mathlib.Core.List.{List}
-use mathlib.Core.Bool.{Bool, false, ◌&&◌}
+use mathlib.Core.Bool.{Bool, true, false, ◌&&◌}
 use native.Mathlib.Nat.{add-zero}
 use native.Mathlib.Omega.{arith}
 use native.Mathlib.Decide.{ℕ_discrete}
@@ -220,15 +220,25 @@ module _ (o : ByteOrder) (older newer : List ℕ) (a : ℕ) (r : Result Found Fi
       go (Older x) same = rw (← same) (refused x 1)
       go (Newer x) same = rw (← same) (refused x 2)
 
--- what is chosen, by the part's table
-module _ {A : Type 0} (p : TablePart) (read : ℕ) (older newer : A) where
-  pub chosen_newer : p.table ≡ InNewer → chosen (part_of (Some p) read) older newer ≡ newer
-  unfolding chosen in_newer
+-- what is chosen, by the answer's test
+module _ {A : Type 0} (r : FindAnswer) (older newer : A) where
+  pub chosen_newer : in_newer r ≡ true → chosen r older newer ≡ newer
+  unfolding chosen
   chosen_newer e = rw e refl
 
-  pub chosen_older : p.table ≡ InOlder → chosen (part_of (Some p) read) older newer ≡ older
-  unfolding chosen in_newer
+  pub chosen_older : in_newer r ≡ false → chosen r older newer ≡ older
+  unfolding chosen
   chosen_older e = rw e refl
+
+-- and by the part's table
+module _ {A : Type 0} (p : TablePart) (read : ℕ) (older newer : A) where
+  pub part_newer : p.table ≡ InNewer → chosen (part_of (Some p) read) older newer ≡ newer
+  unfolding in_newer
+  part_newer e = chosen_newer _ older newer (rw e refl)
+
+  pub part_older : p.table ≡ InOlder → chosen (part_of (Some p) read) older newer ≡ older
+  unfolding in_newer
+  part_older e = chosen_older _ older newer (rw e refl)
 
 -- the chosen table, lent from the offset of an answer on for its length, is the part
 pub part_lent : (r answer : FindAnswer) (older newer t : List ℕ) → r ≡ answer → chosen r older newer ≡ t

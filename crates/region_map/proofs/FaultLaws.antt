@@ -8,7 +8,7 @@ use native.Mathlib.Decide.{ℕ_discrete}
 use native.Mathlib.Omega.{arith}
 use lib.ListN.{length}
 use lib.Dec.{ltb, leb, eqb}
-use borrow.Author.Tests.{lt-ltb, le-ltb, leb-true, not-true}
+use borrow.Author.Tests.{lt-ltb, le-ltb, le-leb, leb-true, not-true}
 use Rattle.words.specs.Choice.{if}
 use Rattle.words.proofs.ChoiceLaws.{both_ways, and_yes, and_no, or_no, if_split, if_both}
 use Rattle.words.proofs.RefusalLaws.{number_some}
@@ -40,6 +40,11 @@ module _ (m : List ℕ) (i : ℕ) where
   unfolding shares
   shares_above n low high w h =
       shares_apart n (λ j l p. and_no (ltb (first_at m i) (end_at m j)) (ltb (first_at m j) (end_at m i)) (le-ltb (first_at m j) (end_at m i) (omega (arith, w.above j l p))))
+
+-- a record that keeps the rules before the last is sound just where it keeps the last
+pub sound_last : (m : List ℕ) (i : ℕ) → marked m i ≡ true → known m i ≡ true → zeroed m i ≡ true → 1 ≤ length_at m i → end_at m i ≤ 2 ^ 32 → sound_at m i ≡ not (permitted m i && shares_any m i i)
+unfolding sound_at
+sound_last m i a b c l e = rw (a, b, c, le-leb 1 (length_at m i) l, le-leb (end_at m i) (2 ^ 32) e)
 
 -- the first fault among n records is one after record i, if that is sound
 pub fault_no : (m : List ℕ) (n i : ℕ) → i < n → true ≡ sound_at m i → fault_from m (n - i) i ≡ fault_from m (n - (i + 1)) (i + 1)

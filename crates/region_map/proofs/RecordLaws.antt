@@ -112,3 +112,9 @@ size_more m (suc n) i k p = go (ℕ_discrete i n) (λ l. size_more m n i l p)
     go : Dec (i ≡ n) → (i < n → size_before m i + length_at m i ≤ size_before m n) → size_before m i + length_at m i ≤ size_before m n + if (permitted m n) (length_at m n) 0
     go (yes e) ih = let f : permitted m n ≡ true = rw (← e) p in rw (f, e) (omega arith)
     go (no e) ih = let g = ih (omega arith) in omega arith
+
+-- the permitted lengths up to record i, and with it
+pub size_yes : (m : List ℕ) (i s l : ℕ) → s ≡ size_before m i → true ≡ permitted m i → l ≡ length_at m i → s + l ≡ size_before m (i + 1)
+unfolding size_before
+size_yes m i s l e p z =
+    rw (e, z) (ap (λ (b : Bool). size_before m i + if b (length_at m i) 0) p) ∙ ap (size_before m) (sym (add-one i))

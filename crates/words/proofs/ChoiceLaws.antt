@@ -18,6 +18,10 @@ pub and_no : (a b : Bool) → b ≡ false → (a && b) ≡ false
 and_no true b e = e
 and_no false b e = refl
 
+pub and_given : (a b : Bool) → b ≡ true → (a && b) ≡ a
+and_given true b e = e
+and_given false b e = refl
+
 pub or_yes : (a b : Bool) → b ≡ true → (a || b) ≡ true
 or_yes true b e = refl
 or_yes false b e = e

@@ -29,6 +29,11 @@ header_same o t u i j same = same_word o
 pub header_seam : (o : ByteOrder) (p q : List ℕ) → header_at o (p ++ q) (length p) ≡ header_at o q 0
 header_seam o p q = header_same o (p ++ q) q (length p) 0 (λ k h. rw zero-add (get_or-append-add p q k 0))
 
+-- low first the bytes of a word stand the other way round
+pub header_turned : (n : ℕ) → header_bytes LowFirst n ≡ reverse (header_bytes HighFirst n)
+unfolding header_bytes word_bytes
+header_turned n = refl
+
 -- the library's bytes of a word are the definition's, in either order
 pub high_bytes : (n : ℕ) → to_be_bytes w32 n ≡ header_bytes HighFirst n
 unfolding header_bytes word_bytes
@@ -37,11 +42,6 @@ high_bytes n = refl
 pub low_bytes : (n : ℕ) → to_le_bytes w32 n ≡ header_bytes LowFirst n
 unfolding header_bytes
 low_bytes n = refl
-
--- low first the bytes of a word stand the other way round
-pub header_turned : (n : ℕ) → header_bytes LowFirst n ≡ reverse (header_bytes HighFirst n)
-unfolding header_bytes word_bytes
-header_turned n = refl
 
 -- four bytes from the lowest on, and from the highest on, come to the same word
 low_high : (a b c d : ℕ) → a + b * 256 + c * 65536 + d * 16777216 ≡ ((d * 256 + c) * 256 + b) * 256 + a

@@ -77,7 +77,7 @@ module _ (n : ℕ) (fine : WriteAnswer) where
 -- ---- the answer, as the code judges
 
 -- the answer for what a list of so many sections comes to
-answered : Result ℕ Refusal → ℕ → ℕ → WriteAnswer
+pub answered : Result ℕ Refusal → ℕ → ℕ → WriteAnswer
 answered (Ok bytes) count room = room_rule bytes count room
 answered (Err refusal) count room = write_refused (number_of refusal) (place_of refusal)
 
@@ -117,7 +117,7 @@ module _ (o : ByteOrder) (d : List ℕ) (count room : ℕ) where
 
 -- the judged list's answer is what writing answers
 module _ (o : ByteOrder) (entry : ℕ) (xs : List Section) (d : List ℕ) (room : ℕ) where
-  judged_answer : answered (judge_from xs 0 (length d) 8) (length xs) room ≡ write_answer o entry xs d room
+  pub judged_answer : answered (judge_from xs 0 (length d) 8) (length xs) room ≡ write_answer o entry xs d room
   unfolding write_answer
   judged_answer = rw length_written (judged_from o d (length xs) room xs 0 8)
 

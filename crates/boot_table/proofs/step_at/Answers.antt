@@ -13,26 +13,26 @@ pub returns-then-room-lt4 : goal.returns-then-room-lt4
 returns-then-room-lt4 c = sym (step_cut _ _ _ (omega arith))
 
 pub returns-then-room-eq4 : goal.returns-then-room-eq4
-returns-then-room-eq4 c = sym (end_step_lem _ _ _ (omega arith) (sym c.size_at-size.ensures ∙ c.if-size-eq0.true))
+returns-then-room-eq4 c = sym (end_step_lem _ _ _ (omega arith) (sym c.size_at-word.ensures ∙ c.if-size-eq0.true))
 
 pub returns-then-size-eq0 : goal.returns-then-size-eq0
 returns-then-size-eq0 c =
-    sym (step_after _ _ _ _ (omega arith) c.size_at-size.ensures c.if-size-eq0.true (omega arith))
+    sym (step_after _ _ _ _ (omega arith) c.size_at-word.ensures c.if-size-eq0.true (omega arith))
 
 pub returns-then-room-lt8 : goal.returns-then-room-lt8
 unfolding next_of
 returns-then-room-lt8 c =
-    sym (step_short _ _ _ _ (omega arith) c.size_at-size.ensures c.if-size-eq0.false (omega arith))
+    sym (step_short _ _ _ _ (omega arith) c.size_at-word.ensures c.if-size-eq0.false (omega arith))
 
 pub returns-then-table-start : goal.returns-then-table-start
 unfolding next_of
 returns-then-table-start c =
-    sym (step_short _ _ _ _ (omega arith) c.size_at-size.ensures c.if-size-eq0.false (omega (arith, c.padded-padded.ensures)))
+    sym (step_short _ _ _ _ (omega arith) c.size_at-word.ensures c.if-size-eq0.false (omega (arith, c.padded-padded.ensures)))
 
 pub returns-then-is_past_top : goal.returns-then-is_past_top
 unfolding next_of
 returns-then-is_past_top c =
-    sym (step_high _ _ _ _ (omega arith) c.size_at-size.ensures _ c.if-size-eq0.false (omega (arith, c.padded-padded.ensures)) c.address_at-address.ensures
+    sym (step_high _ _ _ _ (omega arith) c.size_at-word.ensures _ c.if-size-eq0.false (omega (arith, c.padded-padded.ensures)) c.address_at-address.ensures
     (ltb-true _ _ (sym c.is_past_top.ensures ∙ c.if-is_past_top.true)))
 
 pub returns : goal.returns
@@ -43,7 +43,7 @@ returns c =
       within = omega arith;
       some = omega (arith, c.if-size-eq0.false);
       head = omega arith;
-      size_is = c.size_at-size.ensures;
+      size_is = c.size_at-word.ensures;
       address_is = c.address_at-address.ensures;
       top = ltb-false _ _ (sym c.is_past_top.ensures ∙ c.if-is_past_top.false);
     }))

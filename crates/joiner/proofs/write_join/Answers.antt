@@ -2,12 +2,16 @@
 use Prim.Native.Nat.{ℕ}
 use mathlib.Core.Path.{ap, ◌∙◌}
 use mathlib.Core.List.{List}
+use borrow.Author.Rules.{rules}
 use Rattle.words.specs.Header.{header_bytes}
 use Rattle.words.specs.Run.{over}
 use Rattle.joiner.specs.Join.{section_bytes}
 use Rattle.joiner.proofs.WriteLaws.{parts_joined}
 use Rattle.joiner.proofs.write_join.Goals as goal
 use Rattle.joiner.proofs.write_join.Goals.{Start}
+
+pub copy_sections-end-requires-clause-well_formed : goal.copy_sections-end-requires-clause-well_formed
+copy_sections-end-requires-clause-well_formed c = search rules
 
 pub returns : goal.returns
 returns c =

@@ -17,10 +17,11 @@ use Rattle.one_write.proofs.stored_before.Goals.{In-Some, After-shares_once}
 pub loop-init : goal.loop-init
 loop-init c =
     let w = well_read c.args.order c.args.table.now c.requires in
-    let n : c.args.sections - 0 ≡ c.args.sections = omega arith in
+    let n : c.args.sections ≡ c.args.sections - 0 = omega arith in
     record {
       whole = w.1;
-      rest = λ x l u. rw n (ap (λ (r : Reading). written c.args.map.now (take c.args.sections r.sections) x) w.0);
+      rest = λ x l u. ap (λ (r : Reading). written c.args.map.now (take c.args.sections r.sections) x) w.0
+          ∙ ap (λ (k : ℕ). written c.args.map.now (take k (read_on c.args.order c.args.table.now 4).sections) x) n;
     }
 
 pub whole_step-requires : goal.whole_step-requires

@@ -5,7 +5,7 @@ use lib.ListN.{length}
 use Rattle.std.specs.Prelude.{Some}
 use Rattle.query.specs.Find.{find_answer, part_of}
 use Rattle.query.specs.Covering.{NoPart}
-use Rattle.query.proofs.FindLaws.{find_inside, find_fits, some_found, none_found, refusal_found, chosen_newer, chosen_older, part_lent, start_lent}
+use Rattle.query.proofs.FindLaws.{find_inside, find_fits, some_found, none_found, refusal_found, part_newer, part_older, part_lent, start_lent}
 use Rattle.query.proofs.part.Goals as goal
 use Rattle.query.proofs.part.Goals.{In_default, In-Ok-Some, in_default-via-in-Ok+in_default, in_default-via-in_default}
 
@@ -31,12 +31,12 @@ overflow_add-to c = record { fits = find_fits _ _ _ _ _ _ (found (goal.at.overfl
 
 pub slice_bounds-result-end-in-Newer : goal.slice_bounds-result-end-in-Newer
 slice_bounds-result-end-in-Newer c =
-    let is = chosen_newer c.in-Ok-Some.part c.in-Ok-Some.field-0.read c.args.older.now c.args.newer.now c.in-Newer.is in
+    let is = part_newer c.in-Ok-Some.part c.in-Ok-Some.field-0.read c.args.older.now c.args.newer.now c.in-Newer.is in
     omega (arith, find_inside _ _ _ _ _ (found (goal.at.slice_bounds-result-end-in-Newer c).In-Ok-Some), ap length is)
 
 pub slice_bounds-result-end-in-Older : goal.slice_bounds-result-end-in-Older
 slice_bounds-result-end-in-Older c =
-    let is = chosen_older c.in-Ok-Some.part c.in-Ok-Some.field-0.read c.args.older.now c.args.newer.now c.in-Older.is in
+    let is = part_older c.in-Ok-Some.part c.in-Ok-Some.field-0.read c.args.older.now c.args.newer.now c.in-Older.is in
     omega (arith, find_inside _ _ _ _ _ (found (goal.at.slice_bounds-result-end-in-Older c).In-Ok-Some), ap length is)
 
 pub returns-in-Newer : goal.returns-in-Newer
@@ -45,8 +45,8 @@ returns-in-Newer c =
     let n = c.in-Ok-Some.field-0.read in
     let e = found (goal.at.returns-in-Newer c).In-Ok-Some in
     record {
-      bytes = part_lent _ _ _ _ _ e (chosen_newer p n c.args.older.now c.args.newer.now c.in-Newer.is);
-      start = start_lent _ _ _ _ _ _ e (chosen_newer p n c.args.older.ref_ptr c.args.newer.ref_ptr c.in-Newer.is) (omega arith);
+      bytes = part_lent _ _ _ _ _ e (part_newer p n c.args.older.now c.args.newer.now c.in-Newer.is);
+      start = start_lent _ _ _ _ _ _ e (part_newer p n c.args.older.ref_ptr c.args.newer.ref_ptr c.in-Newer.is) (omega arith);
     }
 
 pub returns-in-Older : goal.returns-in-Older
@@ -55,6 +55,6 @@ returns-in-Older c =
     let n = c.in-Ok-Some.field-0.read in
     let e = found (goal.at.returns-in-Older c).In-Ok-Some in
     record {
-      bytes = part_lent _ _ _ _ _ e (chosen_older p n c.args.older.now c.args.newer.now c.in-Older.is);
-      start = start_lent _ _ _ _ _ _ e (chosen_older p n c.args.older.ref_ptr c.args.newer.ref_ptr c.in-Older.is) (omega arith);
+      bytes = part_lent _ _ _ _ _ e (part_older p n c.args.older.now c.args.newer.now c.in-Older.is);
+      start = start_lent _ _ _ _ _ _ e (part_older p n c.args.older.ref_ptr c.args.newer.ref_ptr c.in-Older.is) (omega arith);
     }

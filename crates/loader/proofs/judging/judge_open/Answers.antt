@@ -74,13 +74,6 @@ pub stretch_to-known-requires : goal.stretch_to-known-requires
 stretch_to-known-requires c =
     ((section_of _ _ _ (step_is (goal.at.stretch_to-known-requires c).In-Some)).top, c.loop-section.invariant.1.is, λ x v u. lowest_each _ _ _ _ x v (rw c.reserved_from-reserved.ensures at u))
 
-pub returns-in_err-form_of : goal.returns-in_err-form_of
-returns-in_err-form_of c =
-    let r = c.in_err-form_of.field-0.0 in
-    let p = err_from_is_err_and c.from_residual-in_err-form_of.result c.from_residual-in_err-form_of.ensures.1 in
-    let z = no_address r (λ n. omega (arith, form_placed c.args.order c.args.table.now, ap (λ (f : Form). f.number) c.in_err-form_of.ensures, n)) in
-    rw (p.1, p.2, z) (open_refused _ _ _ (misformed _ _) c.in_err-form_of.ensures (number_some r))
-
 pub overflow_cast-result : goal.overflow_cast-result
 overflow_cast-result c = omega (arith, section_of _ _ _ (step_is (goal.at.overflow_cast-result c).In-Some))
 
@@ -89,6 +82,13 @@ returns-then-known-end c =
     let k = goal.at.returns-then-known-end c in
     sym ((so_far k.After-walk_on-walk).rule ∙ walk_closed _ _ _ _ _ (step_is k.In-Some) _ (to_closed _ _ _ _ c.stretch_to-known.ensures c.if-known-end.true))
     ∙ open_judged _ _ _ (formed _ _) c.in_ok-form_of.ensures refl
+
+pub returns-in_err-form_of : goal.returns-in_err-form_of
+returns-in_err-form_of c =
+    let r = c.in_err-form_of.field-0.0 in
+    let p = err_from_is_err_and c.from_residual-in_err-form_of.result c.from_residual-in_err-form_of.ensures.1 in
+    let z = no_address r (λ n. omega (arith, form_placed c.args.order c.args.table.now, ap (λ (f : Form). f.number) c.in_err-form_of.ensures, n)) in
+    rw (p.1, p.2, z) (open_refused _ _ _ (misformed _ _) c.in_err-form_of.ensures (number_some r))
 
 pub overflow_add-walk : goal.overflow_add-walk
 overflow_add-walk c = omega (arith, c.walk_on-walk.ensures.counted)
