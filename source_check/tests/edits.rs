@@ -330,6 +330,11 @@ fn a_function_of_the_library_holds_more() {
         answers_of(&cases),
         ["core::int::u64::max: its body has Err Ok"],
     );
+    let option = begun(NUMBERS, "fn min(", "if Some(self) < Some(other) { self } else");
+    assert_eq!(
+        answers_of(&option),
+        ["core::int::u64::min: its body has Some Some"],
+    );
     let branch = "std::prelude::ResultTry::branch";
     let kept = exchanged(RESULTS, "ErrResidual(e)", "Kept(e)");
     assert_eq!(answers_of(&kept), [format!("{branch}: its body has Kept")]);
