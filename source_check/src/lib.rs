@@ -711,11 +711,12 @@ fn allows_in_library(ty: &Type, open: &[String], in_test: bool) -> bool {
 /// type's name. A function for the tests makes none: it holds numbers and bools.
 fn is_case(word: &str, in_test: bool) -> bool {
     let mut listed = listed(in_test, &TEST_LIBRARY_TYPES, &CALL_LIBRARY_TYPES);
-    !in_test && listed.any(|(full, cases)| {
-        let after_type = word.strip_prefix(&format!("{}::", last(full)));
-        let case = after_type.unwrap_or(word);
-        cases.split(", ").any(|listed_case| listed_case == case)
-    })
+    !in_test
+        && listed.any(|(full, cases)| {
+            let after_type = word.strip_prefix(&format!("{}::", last(full)));
+            let case = after_type.unwrap_or(word);
+            cases.split(", ").any(|listed_case| listed_case == case)
+        })
 }
 
 /// Whether a function of the library calls a listed one of a type that its impl

@@ -330,7 +330,11 @@ fn a_function_of_the_library_holds_more() {
         answers_of(&cases),
         ["core::int::u64::max: its body has Err Ok"],
     );
-    let option = begun(NUMBERS, "fn min(", "if Some(self) < Some(other) { self } else");
+    let option = begun(
+        NUMBERS,
+        "fn min(",
+        "if Some(self) < Some(other) { self } else",
+    );
     assert_eq!(
         answers_of(&option),
         ["core::int::u64::min: its body has Some Some"],
